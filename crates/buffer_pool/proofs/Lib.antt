@@ -1,0 +1,5 @@
+pub mod Cases
+pub mod SliceLaws
+pub mod ByteLaws
+pub mod BoundLaws
+pub mod MoveLaws

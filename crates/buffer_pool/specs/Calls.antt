@@ -1,0 +1,117 @@
+-- The calls, for every record, handle, length and lent memory: answer, record and every lent byte, on refusal as on success.
+-- The contracts of the public functions are equations with these. w is the slot count.
+use mathlib.Core.Bool.{Bool, true, false, not, _&&_, _||_}
+use mathlib.Core.List.{List, [], _∷_}
+use Prim.Native.Nat.{ℕ, zero, suc, _+_}
+use lib.Dec.{leb, ltb, eqb}
+use lib.ListN.{length, replicate, set}
+use Rattle.laws.specs.Tests.{pick}
+use Rattle.laws.specs.Lists.{part, copied}
+use Rattle.buffer_pool.specs.declared.slice.Handle.{Handle}
+use Rattle.buffer_pool.specs.declared.buffer_pool.BufferPool.{BufferPool}
+use Rattle.buffer_pool.specs.declared.buffer_pool.Memory.{Memory}
+use Rattle.buffer_pool.specs.declared.buffer_pool.Memory.the-variants.{Pool, Overflow}
+use Rattle.buffer_pool.specs.declared.buffer_pool.Place.{Place}
+use Rattle.buffer_pool.specs.declared.buffer_pool.Answer.{Answer}
+use Rattle.buffer_pool.specs.declared.buffer_pool.Answer.the-variants.{Done, Refused}
+use Rattle.buffer_pool.specs.declared.buffer_pool.Called.{Called}
+use Rattle.buffer_pool.specs.Record.{byteLimit, newRecord}
+use Rattle.buffer_pool.specs.Moves.{Memories, memories, perform}
+use Rattle.buffer_pool.specs.Placing.{Decision, place, tooLong}
+use Rattle.buffer_pool.specs.Soundness.{sound}
+use Rattle.buffer_pool.specs.Steps.{called, refused, at, frame, reservation, reserveStep, commitStep, truncateStep, takeStep, copiedLength, takeMoves, names, releaseStep}
+
+-- what a call leaves: record and answer, the two memories, and a take's destination ([] for the other calls)
+pub record Outcome : Type 0 where
+  pub call : Called
+  pub memory : Memories
+  pub destination : List ℕ
+
+abbrev pub outcome : Called → Memories → List ℕ → Outcome
+outcome call memory destination = record { call = call; memory = memory; destination = destination }
+
+-- ---- What turns every call away: 1, then 2
+
+-- cause 2: "a lent memory's length is not the record's"
+unfoldable pub misfit : BufferPool → Memories → Bool
+misfit r m = not (eqb (length (m .pool)) (r .capacity) && eqb (length (m .overflow)) (r .overflow))
+
+-- an answer by number where cause 1 or 2 holds, otherwise the call's own
+abbrev pub guarded : {A : Type 0} → ℕ → BufferPool → Memories → (ℕ → A) → A → A
+guarded w r m refuse done = pick (not (sound w r)) (refuse 1) (pick (misfit r m) (refuse 2) done)
+
+-- a call that is refused with 1 or 2 leaves everything
+abbrev pub guardedCall : ℕ → BufferPool → Memories → List ℕ → Outcome → Outcome
+guardedCall w r m destination done = guarded w r m (λ number. outcome (refused r number) m destination) done
+
+-- ---- The calls
+
+-- cause 3: "either memory above 1,048,576 bytes". "New gives only 3, with the record of a new pool whose two lengths are 0."
+unfoldable pub new : ℕ → Memories → Outcome
+new w m =
+    pick (ltb byteLimit (length (m .pool)) || ltb byteLimit (length (m .overflow)))
+    (outcome (called (newRecord w 0 0) (Refused 3)) m [])
+    (outcome (called (newRecord w (length (m .pool)) (length (m .overflow))) Done) (memories (replicate (length (m .pool)) 0) (m .overflow)) [])
+
+-- bytes move only once 4 is excluded
+unfoldable pub reserve : ℕ → BufferPool → Memories → ℕ → Outcome
+reserve w r m len =
+    guardedCall w r m [] (outcome (reserveStep w r len) (pick (tooLong (place w r len) len) m (perform (place w r len .moves) m)) [])
+
+unfoldable pub commit : ℕ → BufferPool → Memories → ℕ → Outcome
+commit w r m n = guardedCall w r m [] (outcome (commitStep r n) m [])
+
+unfoldable pub truncate : ℕ → BufferPool → Memories → ℕ → Outcome
+truncate w r m n = guardedCall w r m [] (outcome (truncateStep r n) m [])
+
+-- what a take leaves that copies so many bytes of the overflow
+unfoldable pub copiedOut : Called → BufferPool → Memories → List ℕ → ℕ → Outcome
+copiedOut call r m destination n =
+    outcome call (perform (takeMoves r n) m) (copied (m .overflow) 0 n destination 0)
+
+unfoldable pub take : ℕ → BufferPool → Memories → List ℕ → Outcome
+take w r m destination =
+    guardedCall w r m destination
+    (copiedOut (takeStep w r (length destination)) r m destination (copiedLength (takeStep w r (length destination) .answer)))
+
+unfoldable pub release : ℕ → BufferPool → Memories → Handle → Outcome
+release w r m h = guardedCall w r m [] (outcome (releaseStep w r h) m [])
+
+-- ---- The views
+
+-- a view's refusal number, or 0, and its place
+pub record View : Type 0 where
+  pub number : ℕ
+  pub place : Place
+
+abbrev pub shown : Place → View
+shown place = record { number = 0; place = place }
+
+-- "A refused view is an empty part of the pool memory; a call with the same arguments tells its number, or 0."
+abbrev pub hidden : ℕ → View
+hidden number = record { number = number; place = at Pool 0 0 }
+
+unfoldable pub frameView : ℕ → BufferPool → Memories → View
+frameView w r m = guarded w r m hidden (shown (frame r))
+
+unfoldable pub reservationView : ℕ → BufferPool → Memories → View
+reservationView w r m = guarded w r m hidden (shown (reservation r))
+
+unfoldable pub sliceView : ℕ → BufferPool → Memories → Handle → View
+sliceView w r m h = guarded w r m hidden (pick (names w r h) (shown (at Pool (h .start) (h .length))) (hidden 7))
+
+-- the memory of a place, and the bytes there
+abbrev pub memoryAt : Memory → Memories → List ℕ
+memoryAt Pool m = m .pool
+memoryAt Overflow m = m .overflow
+
+unfoldable pub bytesAt : Memories → Place → List ℕ
+bytesAt m p = part (memoryAt (p .memory) m) (p .start) (p .length)
+
+-- "A write sets one byte of a view"; past the view's end, none
+abbrev pub writtenIn : Memory → Memories → ℕ → ℕ → Memories
+writtenIn Pool m i byte = memories (set (m .pool) i byte) (m .overflow)
+writtenIn Overflow m i byte = memories (m .pool) (set (m .overflow) i byte)
+
+unfoldable pub written : Memories → Place → ℕ → ℕ → Memories
+written m p i byte = pick (ltb i (p .length)) (writtenIn (p .memory) m (p .start + i) byte) m

@@ -1,0 +1,11 @@
+pub mod Record
+pub mod Moves
+pub mod MoveList
+pub mod Placing
+pub mod Soundness
+pub mod Sound
+pub mod Steps
+pub mod Calls
+pub mod Rust
+pub mod Cases
+pub mod Computing

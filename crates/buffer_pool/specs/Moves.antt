@@ -1,0 +1,42 @@
+-- The byte moves of a call, and what each leaves in the two lent memories: every byte of both is determined.
+use mathlib.Core.List.{List, [], _∷_}
+use Prim.Native.Nat.{ℕ, zero, suc}
+use Rattle.laws.specs.Lists.{copied, moved, zeroed}
+
+-- the pool memory and the overflow (document 01's second lent memory, in place of the Rust's heap)
+pub record Memories : Type 0 where
+  pub pool : List ℕ
+  pub overflow : List ℕ
+
+abbrev pub memories : List ℕ → List ℕ → Memories
+memories pool overflow = record { pool = pool; overflow = overflow }
+
+pub data Move : Type 0 where
+  -- in the pool, from, length, to: the Rust's `copy_within`
+  Within : ℕ → ℕ → ℕ → Move
+  -- so many bytes from the overflow's start to the pool's start: `prepend_raw_data`
+  In : ℕ → Move
+  -- in the overflow, from, length, down to 0: what is left of the `Vec` by `split_off`
+  Down : ℕ → ℕ → Move
+  -- from, length in the pool, to the overflow's start: `copy_into_buffer`
+  Out : ℕ → ℕ → Move
+  -- zeros in the overflow, from, up to: the growth of the `Vec`
+  Grow : ℕ → ℕ → Move
+
+-- what one move leaves. A `Down` leaves the bytes past those it moved as they were.
+unfoldable pub act : Memories → Move → Memories
+act m (Within start len to) = memories (moved (m .pool) start len to) (m .overflow)
+act m (In len) = memories (copied (m .overflow) 0 len (m .pool) 0) (m .overflow)
+act m (Down start len) = memories (m .pool) (moved (m .overflow) start len 0)
+act m (Out start len) = memories (m .pool) (copied (m .pool) start len (m .overflow) 0)
+act m (Grow start end) = memories (m .pool) (zeroed (m .overflow) start end)
+
+-- what a list of moves leaves, made in its order
+unfoldable pub perform : List Move → Memories → Memories
+perform [] m = m
+perform (a ∷ rest) m = perform rest (act m a)
+
+-- the move of a frame within the pool; none for an empty frame: the Rust's `move_raw_at_offset`
+abbrev pub within : ℕ → ℕ → ℕ → List Move
+within start zero to = []
+within start (suc l) to = Within start (suc l) to ∷ []

@@ -1,0 +1,258 @@
+-- Placing a frame, from document 01's section of that name: which record a reserve leaves, how often the mode changes, which
+-- bytes are moved, and whether the heap is used. Numbers alone: no definition here sees a byte. w is the slot count.
+use mathlib.Core.Bool.{Bool, true, false, not, _&&_, _||_}
+use mathlib.Core.List.{List, [], _∷_, _++_}
+use Prim.Native.Nat.{ℕ, zero, suc, _+_, _-_, min, max}
+use lib.Dec.{leb, ltb, eqb}
+use lib.ListN.{getD, replicate}
+use lib.Count.{leadingZeros, trailingZeros}
+use Rattle.laws.specs.Tests.{pick}
+use Rattle.laws.specs.Live.{lastLive}
+use Rattle.buffer_pool.specs.declared.buffer_pool.BufferPool.{BufferPool}
+use Rattle.buffer_pool.specs.declared.buffer_pool.PoolFront.{PoolFront}
+use Rattle.buffer_pool.specs.declared.buffer_pool.PoolMode.{PoolMode}
+use Rattle.buffer_pool.specs.declared.buffer_pool.PoolMode.the-variants.{Back, Front, Alloc}
+use Rattle.buffer_pool.specs.Record.{after, front, placed, framed, marked}
+use Rattle.buffer_pool.specs.Moves.{Move, Within, In, Down, Out, Grow, within}
+
+-- what a reserve decides: the next record, the count of mode changes, the moves in their order, and whether the Rust would
+-- use the heap
+pub record Decision : Type 0 where
+  pub next : BufferPool
+  pub changes : ℕ
+  pub moves : List Move
+  pub heap : Bool
+
+-- ---- The tail
+
+-- d: "the smaller of 8 − s and the trailing zero bits (8 when none is set)"
+unfoldable pub drops : ℕ → ℕ → ℕ → ℕ
+drops w live s = min (w - s) (trailingZeros w live)
+
+-- "Clearable: d ≤ n and s + n = 8": the Rust's `tail_is_clearable`
+unfoldable pub clearable : ℕ → BufferPool → Bool
+clearable w r = leb (drops w (r .live) (r .«back_start»)) (r .«back_len») && eqb (r .«back_start» + r .«back_len») w
+
+-- "The frame goes after slot s + n − d or, with d = n, after the highest live front slot (0 if none)"
+unfoldable pub tailStart : ℕ → BufferPool → ℕ
+tailStart w r =
+    pick (eqb (drops w (r .live) (r .«back_start»)) (r .«back_len»))
+    (after (r .starts) (r .lengths) (lastLive w (r .live) (r .«back_start»)))
+    (after (r .starts) (r .lengths) (r .«back_start» + r .«back_len» - drops w (r .live) (r .«back_start»)))
+
+-- "Tail clear: needs a trailing zero .. if frame and len fit there"
+unfoldable pub tailFits : ℕ → BufferPool → ℕ → Bool
+tailFits w r len = ltb 0 (trailingZeros w (r .live)) && leb (tailStart w r + r .«raw_len» + len) (r .capacity)
+
+-- "n falls by d": the record after a tail clear, in B
+abbrev pub tailCleared : ℕ → BufferPool → BufferPool
+tailCleared w r =
+    placed r Back (r .«back_start») (r .«back_len» - drops w (r .live) (r .«back_start»))
+    (r .«back_start» + (r .«back_len» - drops w (r .live) (r .«back_start»))) (tailStart w r)
+
+-- ---- The head
+
+-- f, and the start of slot f + 1
+abbrev pub frontSlots : ℕ → BufferPool → ℕ
+frontSlots w r = leadingZeros w (r .live)
+
+abbrev pub frontBytes : ℕ → BufferPool → ℕ
+frontBytes w r = getD (r .starts) (leadingZeros w (r .live)) 0
+
+-- "f leading zero bits, f ≥ 1, frame length strictly below the start of slot f + 1", which must be one of the slots
+unfoldable pub headFits : ℕ → BufferPool → Bool
+headFits w r = leb 1 (frontSlots w r) && (ltb (frontSlots w r) w && ltb (r .«raw_len») (frontBytes w r))
+
+-- "If f > s, the boundary s becomes f and n falls by the difference. F then has f slots and the bytes below that start, and
+-- the frame moves to 0": `max` and the difference that stops at 0 say the "if"
+abbrev pub headCleared : ℕ → BufferPool → BufferPool
+headCleared w r =
+    placed r (front (frontSlots w r) (frontBytes w r) 0) (max (r .«back_start») (frontSlots w r))
+    (r .«back_len» - (frontSlots w r - r .«back_start»)) 0 0
+
+-- ---- The overflow
+
+-- "Entering A copies the frame to the overflow's start": the Rust's `copy_into_buffer` and `reset_raw`
+abbrev pub toAlloc : BufferPool → BufferPool
+toAlloc r = framed r Alloc 0 0 (max (r .kept) (r .cursor + r .«raw_len»)) (r .cursor + r .«raw_len») (r .reserved)
+
+-- "growth shows zeros"
+abbrev pub grows : Bool → ℕ → ℕ → List Move
+grows true start end = Grow start end ∷ []
+grows false start end = []
+
+-- ---- A mode that keeps the frame, and the change to another
+
+-- the reservation is made where the frame lies
+abbrev pub finish : PoolMode → BufferPool → List Move → ℕ → Decision
+finish Back r moves len =
+    record { next = framed r Back (r .«raw_offset») (r .«raw_len») (r .kept) (r .cursor) len; changes = 0; moves = moves; heap = false }
+finish (Front f) r moves len =
+    record { next = framed r (Front f) (r .«raw_offset») (r .«raw_len») (r .kept) (r .cursor) len; changes = 0; moves = moves; heap = false }
+finish Alloc r moves len =
+    record {
+      next = framed r Alloc (r .«raw_offset») (r .«raw_len») (max (r .kept) (r .cursor + len)) (r .cursor) len;
+      changes = 0;
+      moves = moves ++ grows (ltb (r .kept) (r .cursor + len)) (r .kept) (r .cursor + len);
+      heap = true;
+    }
+
+-- moves made before a decision
+abbrev pub first : List Move → Decision → Decision
+first moves d = record { next = d .next; changes = d .changes; moves = moves ++ d .moves; heap = d .heap }
+
+-- a mode change with its moves, before a decision
+abbrev pub changed : List Move → Decision → Decision
+changed moves d = record { next = d .next; changes = suc (d .changes); moves = moves ++ d .moves; heap = d .heap }
+
+-- ---- One call of `reserve_`: what a mode does with the frame
+
+-- the mode keeps the frame, in this record after these moves; or, where `again`, it changes, with these moves, and the frame
+-- is placed again: `entered` says that A was entered just now
+pub record Layer : Type 0 where
+  pub again : Bool
+  pub entered : Bool
+  pub mode : PoolMode
+  pub pool : BufferPool
+  pub moves : List Move
+
+abbrev pub stay : PoolMode → BufferPool → List Move → Layer
+stay mode r moves = record { again = false; entered = false; mode = mode; pool = r; moves = moves }
+
+abbrev pub change : Bool → BufferPool → List Move → Layer
+change entered r moves = record { again = true; entered = entered; mode = r .mode; pool = r; moves = moves }
+
+-- out to the overflow, after these moves
+abbrev pub goOut : BufferPool → List Move → Layer
+goOut r moves = change true (toAlloc r) (moves ++ (Out (r .«raw_offset») (r .«raw_len») ∷ []))
+
+-- "B: fits if frame end + len ≤ capacity and s + n < 8"
+unfoldable pub backFits : ℕ → BufferPool → ℕ → Bool
+backFits w r len = leb (r .«raw_offset» + r .«raw_len» + len) (r .capacity) && ltb (r .«back_start» + r .«back_len») w
+
+-- B: fits? clearable? tail clear? head clear? "Otherwise the tail must be clearable, else A"
+unfoldable pub backOn : Bool → Bool → Bool → Bool → ℕ → BufferPool → Layer
+backOn true c t h w r = stay Back r []
+backOn false false t h w r = goOut r []
+backOn false true true h w r = stay Back (tailCleared w r) (within (r .«raw_offset») (r .«raw_len») (tailStart w r))
+backOn false true false true w r = change false (headCleared w r) (within (r .«raw_offset») (r .«raw_len») 0)
+backOn false true false false w r = goOut r []
+
+-- the bytes that F needs: the frame's end plus len within its own
+unfoldable pub frontFits : BufferPool → ℕ → ℕ → Bool
+frontFits r c len = leb (r .«raw_offset» + r .«raw_len» + len) c
+
+-- "it drops its own freed tail slots, moves the frame down": the last of F's own slots that is live, and F after that
+abbrev pub frontLast : ℕ → BufferPool → PoolFront → ℕ
+frontLast w r f = lastLive w (r .live) (f .len)
+
+abbrev pub frontStart : ℕ → BufferPool → PoolFront → ℕ
+frontStart w r f = after (r .starts) (r .lengths) (frontLast w r f)
+
+abbrev pub shorter : ℕ → BufferPool → PoolFront → PoolFront
+shorter w r f = record { «back_start» = f .«back_start»; «byte_capacity» = f .«byte_capacity»; len = frontLast w r f }
+
+abbrev pub frontCleared : ℕ → BufferPool → PoolFront → BufferPool
+frontCleared w r f =
+    placed r (Front (shorter w r f)) (r .«back_start») (r .«back_len») (frontLast w r f) (frontStart w r f)
+
+-- F gives way after these moves: clearable? tail clear? "Failing that, B by a tail clear, else A"
+unfoldable pub leaveOn : Bool → Bool → ℕ → BufferPool → List Move → Layer
+leaveOn true true w r moves = change false (tailCleared w r) (moves ++ within (r .«raw_offset») (r .«raw_len») (tailStart w r))
+leaveOn true false w r moves = goOut r moves
+leaveOn false t w r moves = goOut r moves
+
+abbrev pub leave : ℕ → BufferPool → List Move → ℕ → Layer
+leave w r moves len = leaveOn (clearable w r) (tailFits w r len) w r moves
+
+-- F: fits? drops a slot? fits after that? "F: needs a slot and bytes. Otherwise it drops .. and tries again"
+unfoldable pub frontOn : Bool → Bool → Bool → ℕ → BufferPool → PoolFront → ℕ → Layer
+frontOn true d g w r f len = stay (Front f) r []
+frontOn false true true w r f len =
+    stay (Front (shorter w r f)) (frontCleared w r f) (within (r .«raw_offset») (r .«raw_len») (frontStart w r f))
+frontOn false true false w r f len =
+    leave w (frontCleared w r f) (within (r .«raw_offset») (r .«raw_len») (frontStart w r f)) len
+frontOn false false g w r f len = leave w r [] len
+
+-- "A stays if it was entered in this same reserve, its frame is non-empty, n = 0, or the tail is not clearable"
+unfoldable pub stays : ℕ → Bool → BufferPool → Bool
+stays w entered r = entered || (ltb 0 (r .cursor) || (eqb (r .«back_len») 0 || not (clearable w r)))
+
+-- A: stays? tail clear? head clear? "Otherwise tail clear, then head clear, as above"
+unfoldable pub allocOn : Bool → Bool → Bool → ℕ → BufferPool → Layer
+allocOn true t h w r = stay Alloc r []
+allocOn false true h w r = change false (tailCleared w r) []
+allocOn false false true w r = change false (headCleared w r) []
+allocOn false false false w r = stay Alloc r []
+
+unfoldable pub layer : ℕ → Bool → PoolMode → BufferPool → ℕ → Layer
+layer w entered Back r len = backOn (backFits w r len) (clearable w r) (tailFits w r len) (headFits w r) w r
+layer w entered (Front f) r len =
+    frontOn (ltb (f .len) (f .«back_start») && frontFits r (f .«byte_capacity») len) (ltb (frontLast w r f) (f .len))
+    (frontFits (frontCleared w r f) (f .«byte_capacity») len) w r f len
+layer w entered Alloc r len = allocOn (stays w entered r) (tailFits w r len) (headFits w r) w r
+
+-- ---- "`reserve_` calls itself after each mode change"
+
+-- the decision of a layer, where `next` places again
+abbrev pub resolveOn : (Bool → BufferPool → Decision) → Bool → Layer → ℕ → Decision
+resolveOn next true l len = changed (l .moves) (next (l .entered) (l .pool))
+resolveOn next false l len = finish (l .mode) (l .pool) (l .moves) len
+
+abbrev pub resolve : (Bool → BufferPool → Decision) → Layer → ℕ → Decision
+resolve next l len = resolveOn next (l .again) l len
+
+-- the decision with so many changes still allowed
+unfoldable pub placeOf : ℕ → ℕ → Bool → PoolMode → BufferPool → ℕ → Decision
+placeOf w zero entered mode r len = finish mode r [] len
+placeOf w (suc k) entered mode r len =
+    resolve (λ e q. placeOf w k e (q .mode) q len) (layer w entered mode r len) len
+
+-- "no reserve makes more than two changes"
+abbrev pub mostChanges : ℕ
+mostChanges = 2
+
+-- ---- The reset
+
+abbrev pub isAlloc : PoolMode → Bool
+isAlloc Back = false
+isAlloc (Front f) = false
+isAlloc Alloc = true
+
+-- "if no bit is set and either n is not 0, or the mode is A (overflow) and the overflow frame is empty"
+unfoldable pub resets : BufferPool → Bool
+resets r = eqb (r .live) 0 && (not (eqb (r .«back_len») 0) || (isAlloc (r .mode) && eqb (r .cursor) 0))
+
+-- the record after a reset: reset at all? A's frame strictly shorter than the capacity? A's frame empty?
+-- "B and F move the frame to 0 and go to B. A goes to B only if its frame is strictly shorter than the capacity; the frame
+-- then moves to pool start. s and n become 0 with that step." An empty frame of A clears the slots' entries too.
+unfoldable pub resetOn : Bool → Bool → Bool → PoolMode → ℕ → BufferPool → BufferPool
+resetOn false t z mode w r = r
+resetOn true t z Back w r = placed r Back 0 0 0 0
+resetOn true t z (Front f) w r = placed r Back 0 0 0 0
+resetOn true true true Alloc w r = marked (placed r Back 0 0 0 0) (r .live) (replicate w 0) (replicate w 0) (r .serials) (r .given)
+resetOn true true false Alloc w r = framed (placed r Back 0 0 0 0) Back 0 (r .cursor) (r .kept - r .cursor) 0 (r .reserved)
+resetOn true false z Alloc w r = placed r Alloc (r .«back_start») (r .«back_len») 0 (r .«raw_offset»)
+
+-- its moves, by the same tests. From A: "moves the bytes after the frame down to 0 and keeps them"
+unfoldable pub resetMoves : Bool → Bool → Bool → PoolMode → BufferPool → List Move
+resetMoves false t z mode r = []
+resetMoves true t z Back r = within (r .«raw_offset») (r .«raw_len») 0
+resetMoves true t z (Front f) r = within (r .«raw_offset») (r .«raw_len») 0
+resetMoves true true true Alloc r = []
+resetMoves true true false Alloc r = In (r .cursor) ∷ Down (r .cursor) (r .kept - r .cursor) ∷ []
+resetMoves true false z Alloc r = []
+
+unfoldable pub reset : ℕ → BufferPool → BufferPool
+reset w r = resetOn (resets r) (ltb (r .cursor) (r .capacity)) (eqb (r .cursor) 0) (r .mode) w r
+
+-- ---- The whole decision of a reserve of len bytes
+
+unfoldable pub place : ℕ → BufferPool → ℕ → Decision
+place w r len =
+    first (resetMoves (resets r) (ltb (r .cursor) (r .capacity)) (eqb (r .cursor) 0) (r .mode) r)
+    (placeOf w mostChanges false (reset w r .mode) (reset w r) len)
+
+-- cause 4: the Rust would use the heap, "and frame length + len exceeds the overflow"
+unfoldable pub tooLong : Decision → ℕ → Bool
+tooLong d len = d .heap && ltb (d .next .overflow) (d .next .cursor + len)

@@ -1,0 +1,117 @@
+-- The pool's record (declared in src/buffer_pool.rt) with some of its fields replaced, and what the other definitions read
+-- off it. In a comment, s is `back_start` and n is `back_len`, as in document 01.
+use mathlib.Core.List.{List}
+use Prim.Native.Nat.{ℕ, zero, suc, _+_, _-_}
+use lib.ListN.{getD, replicate}
+use Rattle.buffer_pool.specs.declared.buffer_pool.BufferPool.{BufferPool}
+use Rattle.buffer_pool.specs.declared.buffer_pool.PoolFront.{PoolFront}
+use Rattle.buffer_pool.specs.declared.buffer_pool.PoolMode.{PoolMode}
+use Rattle.buffer_pool.specs.declared.buffer_pool.PoolMode.the-variants.{Back, Front, Alloc}
+
+-- the slot count and the byte limit: the constants of the pool's type. A w in the other definitions is a slot count.
+abbrev pub slotCount : ℕ
+slotCount = 8
+
+abbrev pub byteLimit : ℕ
+byteLimit = 1048576
+
+-- the start of slot p's slice
+abbrev pub startAt : List ℕ → ℕ → ℕ
+startAt starts p = getD starts (p - 1) 0
+
+-- the end of slot p's slice, and 0 for no slot: the Rust's `raw_offset_from_len`
+unfoldable pub after : List ℕ → List ℕ → ℕ → ℕ
+after starts lengths zero = 0
+after starts lengths (suc i) = getD starts i 0 + getD lengths i 0
+
+-- a front of f slots and c bytes, l of the slots used
+abbrev pub front : ℕ → ℕ → ℕ → PoolMode
+front f c l = Front (record { «back_start» = f; «byte_capacity» = c; len = l })
+
+-- the record of a new pool with memories of these lengths
+abbrev pub newRecord : ℕ → ℕ → ℕ → BufferPool
+newRecord w capacity overflow =
+    record {
+      capacity = capacity;
+      overflow = overflow;
+      live = 0;
+      starts = replicate w 0;
+      lengths = replicate w 0;
+      serials = replicate w 0;
+      given = 0;
+      «back_start» = 0;
+      «back_len» = 0;
+      used = 0;
+      «raw_offset» = 0;
+      «raw_len» = 0;
+      mode = Back;
+      kept = 0;
+      cursor = 0;
+      reserved = 0;
+    }
+
+-- r with another mode, back (s, n), count of used slots and frame start
+abbrev pub placed : BufferPool → PoolMode → ℕ → ℕ → ℕ → ℕ → BufferPool
+placed r mode s n used offset =
+    record {
+      capacity = r .capacity;
+      overflow = r .overflow;
+      live = r .live;
+      starts = r .starts;
+      lengths = r .lengths;
+      serials = r .serials;
+      given = r .given;
+      «back_start» = s;
+      «back_len» = n;
+      used = used;
+      «raw_offset» = offset;
+      «raw_len» = r .«raw_len»;
+      mode = mode;
+      kept = r .kept;
+      cursor = r .cursor;
+      reserved = r .reserved;
+    }
+
+-- r with other numbers of the frame: mode, start and length in the pool, kept length and cursor of the overflow, reservation
+abbrev pub framed : BufferPool → PoolMode → ℕ → ℕ → ℕ → ℕ → ℕ → BufferPool
+framed r mode offset len kept cursor reserved =
+    record {
+      capacity = r .capacity;
+      overflow = r .overflow;
+      live = r .live;
+      starts = r .starts;
+      lengths = r .lengths;
+      serials = r .serials;
+      given = r .given;
+      «back_start» = r .«back_start»;
+      «back_len» = r .«back_len»;
+      used = r .used;
+      «raw_offset» = offset;
+      «raw_len» = len;
+      mode = mode;
+      kept = kept;
+      cursor = cursor;
+      reserved = reserved;
+    }
+
+-- r with other live slots and other entries of the slots
+abbrev pub marked : BufferPool → ℕ → List ℕ → List ℕ → List ℕ → ℕ → BufferPool
+marked r live starts lengths serials given =
+    record {
+      capacity = r .capacity;
+      overflow = r .overflow;
+      live = live;
+      starts = starts;
+      lengths = lengths;
+      serials = serials;
+      given = given;
+      «back_start» = r .«back_start»;
+      «back_len» = r .«back_len»;
+      used = r .used;
+      «raw_offset» = r .«raw_offset»;
+      «raw_len» = r .«raw_len»;
+      mode = r .mode;
+      kept = r .kept;
+      cursor = r .cursor;
+      reserved = r .reserved;
+    }

@@ -1,0 +1,156 @@
+-- The record steps: what each call does to the record and what it answers, from numbers alone. Calls.antt adds the soundness
+-- test, the memories' lengths and the bytes.
+use mathlib.Core.Bool.{Bool, true, false, not, _&&_}
+use mathlib.Core.List.{List, [], _∷_}
+use Prim.Native.Nat.{ℕ, zero, suc, _+_, _-_, min}
+use lib.Dec.{leb, ltb, eqb}
+use lib.ListN.{getD, set}
+use Rattle.laws.specs.Tests.{pick}
+use Rattle.laws.specs.Live.{liveAt, claimed, released}
+use Rattle.buffer_pool.specs.declared.slice.Handle.{Handle}
+use Rattle.buffer_pool.specs.declared.buffer_pool.BufferPool.{BufferPool}
+use Rattle.buffer_pool.specs.declared.buffer_pool.PoolFront.{PoolFront}
+use Rattle.buffer_pool.specs.declared.buffer_pool.PoolMode.{PoolMode}
+use Rattle.buffer_pool.specs.declared.buffer_pool.PoolMode.the-variants.{Back, Front, Alloc}
+use Rattle.buffer_pool.specs.declared.buffer_pool.Memory.{Memory}
+use Rattle.buffer_pool.specs.declared.buffer_pool.Memory.the-variants.{Pool, Overflow}
+use Rattle.buffer_pool.specs.declared.buffer_pool.Place.{Place}
+use Rattle.buffer_pool.specs.declared.buffer_pool.Answer.{Answer}
+use Rattle.buffer_pool.specs.declared.buffer_pool.Answer.the-variants.{Done, Reserved, Framed, Taken, Copied, Refused}
+use Rattle.buffer_pool.specs.declared.buffer_pool.Called.{Called}
+use Rattle.buffer_pool.specs.Record.{startAt, placed, framed, marked}
+use Rattle.buffer_pool.specs.Moves.{Move, Down}
+use Rattle.buffer_pool.specs.Placing.{Decision, place, tooLong}
+
+-- ---- Answers
+
+-- document 01's number of a refusal, and 0 for every other answer
+unfoldable pub refusal : Answer → ℕ
+refusal Done = 0
+refusal (Reserved p changes) = 0
+refusal (Framed p) = 0
+refusal (Taken h) = 0
+refusal (Copied n) = 0
+refusal (Refused number) = number
+
+abbrev pub called : BufferPool → Answer → Called
+called r answer = record { pool = r; answer = answer }
+
+-- a refused call leaves the record
+abbrev pub refused : BufferPool → ℕ → Called
+refused r number = called r (Refused number)
+
+-- ---- Frame and reservation
+
+abbrev pub at : Memory → ℕ → ℕ → Place
+at memory start length = record { memory = memory; start = start; length = length }
+
+-- the frame, as viewed: in the pool, or at the overflow's start
+abbrev pub frameOf : PoolMode → BufferPool → Place
+frameOf Back r = at Pool (r .«raw_offset») (r .«raw_len»)
+frameOf (Front f) r = at Pool (r .«raw_offset») (r .«raw_len»)
+frameOf Alloc r = at Overflow 0 (r .cursor)
+
+abbrev pub frame : BufferPool → Place
+frame r = frameOf (r .mode) r
+
+-- the reservation, as viewed: after the frame, in the same memory. "A spent reservation, and that of a new pool, is empty and
+-- at the frame's end."
+abbrev pub reservation : BufferPool → Place
+reservation r = at (frame r .memory) (frame r .start + frame r .length) (r .reserved)
+
+-- ---- Reserve
+
+-- from its decision: refused with 4, or the reservation and the count of mode changes
+unfoldable pub reserveOn : Bool → BufferPool → Decision → Called
+reserveOn true r d = refused r 4
+reserveOn false r d = called (d .next) (Reserved (reservation (d .next)) (d .changes))
+
+unfoldable pub reserveStep : ℕ → BufferPool → ℕ → Called
+reserveStep w r len = reserveOn (tooLong (place w r len) len) r (place w r len)
+
+-- ---- Commit and truncate: "Commit, truncate and take spend the reservation, even a truncate that cuts nothing."
+
+-- r with a frame of another length, and its reservation spent
+abbrev pub resized : PoolMode → BufferPool → ℕ → BufferPool
+resized Back r len = framed r Back (r .«raw_offset») len (r .kept) (r .cursor) 0
+resized (Front f) r len = framed r (Front f) (r .«raw_offset») len (r .kept) (r .cursor) 0
+resized Alloc r len = framed r Alloc (r .«raw_offset») (r .«raw_len») (r .kept) len 0
+
+abbrev pub reframed : BufferPool → Called
+reframed r = called r (Framed (frame r))
+
+-- cause 5: "len exceeds the reservation"
+unfoldable pub commitStep : BufferPool → ℕ → Called
+commitStep r n = pick (ltb (r .reserved) n) (refused r 5) (reframed (resized (r .mode) r (frame r .length + n)))
+
+unfoldable pub truncateStep : BufferPool → ℕ → Called
+truncateStep r n = reframed (resized (r .mode) r (min (frame r .length) n))
+
+-- ---- Take
+
+-- "after 4,294,967,295 serials"
+abbrev pub mostSerials : ℕ
+mostSerials = 4294967295
+
+-- the handle of the frame as the next slice
+abbrev pub nextHandle : BufferPool → Handle
+nextHandle r = record { slot = suc (r .used); start = r .«raw_offset»; length = r .«raw_len»; serial = suc (r .given) }
+
+-- the frame becomes the slice of slot used + 1, and an empty frame begins after it: `InnerMemory::get_data_owned`
+abbrev pub handedOut : ℕ → BufferPool → PoolMode → ℕ → BufferPool
+handedOut w r mode n =
+    framed
+    (placed
+    (marked r (claimed w (r .live) (suc (r .used))) (set (r .starts) (r .used) (r .«raw_offset»))
+    (set (r .lengths) (r .used) (r .«raw_len»)) (set (r .serials) (r .used) (suc (r .given))) (suc (r .given)))
+    mode (r .«back_start») n (suc (r .used)) (r .«raw_offset» + r .«raw_len»))
+    mode (r .«raw_offset» + r .«raw_len») 0 (r .kept) (r .cursor) 0
+
+abbrev pub longer : PoolFront → ℕ → PoolFront
+longer f len = record { «back_start» = f .«back_start»; «byte_capacity» = f .«byte_capacity»; len = len }
+
+-- is the frame empty? longer than the destination? are all serials given? "An empty frame gives length 0, no slot, no copy,
+-- in every mode."
+unfoldable pub takeOn : Bool → Bool → Bool → PoolMode → ℕ → BufferPool → Called
+takeOn true long spent mode w r = called (resized mode r (frameOf mode r .length)) (Copied 0)
+takeOn false long true Back w r = refused r 8
+takeOn false long false Back w r = called (handedOut w r Back (suc (r .used) - r .«back_start»)) (Taken (nextHandle r))
+takeOn false long true (Front f) w r = refused r 8
+takeOn false long false (Front f) w r = called (handedOut w r (Front (longer f (suc (r .used)))) (r .«back_len»)) (Taken (nextHandle r))
+takeOn false true spent Alloc w r = refused r 6
+takeOn false false spent Alloc w r =
+    called (framed r Alloc (r .«raw_offset») (r .«raw_len») (r .kept - r .cursor) 0 0) (Copied (r .cursor))
+
+-- a take with a destination of this length
+unfoldable pub takeStep : ℕ → BufferPool → ℕ → Called
+takeStep w r destination =
+    takeOn (eqb (frame r .length) 0) (ltb destination (frame r .length)) (leb mostSerials (r .given)) (r .mode) w r
+
+-- so many bytes go to the destination: those of an answer `Copied`
+abbrev pub copiedLength : Answer → ℕ
+copiedLength Done = 0
+copiedLength (Reserved p changes) = 0
+copiedLength (Framed p) = 0
+copiedLength (Taken h) = 0
+copiedLength (Copied n) = n
+copiedLength (Refused number) = 0
+
+-- a take out of the overflow "moves the bytes after the frame down to 0 and keeps them"
+unfoldable pub takeMoves : BufferPool → ℕ → List Move
+takeMoves r zero = []
+takeMoves r (suc n) = Down (suc n) (r .kept - suc n) ∷ []
+
+-- ---- Release
+
+-- does the handle name a live slot of w, with that slot's start, length and serial? If not, cause 7 holds.
+unfoldable pub names : ℕ → BufferPool → Handle → Bool
+names w r h =
+    leb 1 (h .slot) && (leb (h .slot) w && (liveAt w (r .live) (h .slot)
+    && (eqb (h .start) (startAt (r .starts) (h .slot)) && (eqb (h .length) (startAt (r .lengths) (h .slot))
+    && eqb (h .serial) (startAt (r .serials) (h .slot))))))
+
+unfoldable pub releaseStep : ℕ → BufferPool → Handle → Called
+releaseStep w r h =
+    pick (names w r h) (called (marked r (released w (r .live) (h .slot)) (r .starts) (r .lengths) (r .serials) (r .given)) Done)
+    (refused r 7)

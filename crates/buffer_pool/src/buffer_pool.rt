@@ -1,0 +1,180 @@
+// The pool's record, its modes and what its calls answer (buffer_pool/mod.rs of the Rust).
+ghost use mathlib.Core.Path.{_≡_};
+ghost use Rattle.buffer_pool.specs.Record.{newRecord, placed, framed};
+
+use crate::slice::Handle;
+
+// The front part of the pool. Its slots are those up to `back_start`, its bytes those below `byte_capacity`, and `len` of
+// its slots are used.
+pub struct PoolFront {
+    pub back_start: usize,
+    pub byte_capacity: u64,
+    pub len: usize,
+}
+
+// Where the frame is gathered: after the slices of the back (document 01's B), in the front (F), or in the overflow (A).
+pub enum PoolMode {
+    Back,
+    Front(PoolFront),
+    Alloc,
+}
+
+// The pool's record. The two memories that it speaks of are lent to each call.
+pub struct BufferPool {
+    // the lengths of the pool memory and of the overflow
+    pub capacity: u64,
+    pub overflow: u64,
+
+    // the live slots, and for each slot the slice that was last taken there
+    pub live: u8,
+    pub starts: [u32; 8],
+    pub lengths: [u32; 8],
+    pub serials: [u32; 8],
+
+    // how many serials were given
+    pub given: u32,
+
+    // PoolBack: the back begins after slot `back_start` and has `back_len` slots
+    pub back_start: usize,
+    pub back_len: usize,
+
+    // InnerMemory: how many slots are used, and the frame's place in the pool
+    pub used: usize,
+    pub raw_offset: u64,
+    pub raw_len: u64,
+
+    pub mode: PoolMode,
+
+    // the overflow, as the Rust's `Vec`: the length that is kept, and the length of the frame in it
+    pub kept: u64,
+    pub cursor: u64,
+
+    // the length of the last reservation, 0 once it is spent
+    pub reserved: u64,
+}
+
+// One of the two lent memories.
+pub enum Memory {
+    Pool,
+    Overflow,
+}
+
+// A range of one memory.
+pub struct Place {
+    pub memory: Memory,
+    pub start: u64,
+    pub length: u64,
+}
+
+// What a call answers.
+pub enum Answer {
+    // new and release: done
+    Done,
+
+    // reserve: the reservation, and how often the mode changed
+    Reserved(Place, u32),
+
+    // commit and truncate: the frame
+    Framed(Place),
+
+    // take: a slice of the pool
+    Taken(Handle),
+
+    // take: this many bytes went to the destination, 0 for an empty frame
+    Copied(u64),
+
+    // any call: document 01's number, and nothing was changed
+    Refused(u8),
+}
+
+// A call's record and answer.
+pub struct Called {
+    pub pool: BufferPool,
+    pub answer: Answer,
+}
+
+impl BufferPool {
+    // How many slices can live in the pool.
+    pub const POOL_CAPACITY: usize = 8;
+
+    // The greatest length of a lent memory.
+    pub const BYTE_LIMIT: u64 = 1_048_576;
+
+    // The record of a new pool with memories of these lengths.
+    pub fn with_lengths(capacity: u64, overflow: u64) -> Self
+        ensures { λ r. ⌜ r ≡ newRecord 8 capacity overflow ⌝ }
+    {
+        BufferPool {
+            capacity: capacity,
+            overflow: overflow,
+            live: 0,
+            starts: [0; BufferPool::POOL_CAPACITY],
+            lengths: [0; BufferPool::POOL_CAPACITY],
+            serials: [0; BufferPool::POOL_CAPACITY],
+            given: 0,
+            back_start: 0,
+            back_len: 0,
+            used: 0,
+            raw_offset: 0,
+            raw_len: 0,
+            mode: PoolMode::Back,
+            kept: 0,
+            cursor: 0,
+            reserved: 0,
+        }
+    }
+
+    // The record with another mode, back, count of used slots and frame start.
+    pub(crate) fn placed(self, mode: PoolMode, back_start: usize, back_len: usize, used: usize, raw_offset: u64) -> Self
+        ensures { λ r. ⌜ r ≡ placed self mode «back_start» «back_len» used «raw_offset» ⌝ }
+    {
+        let starts = self.starts;
+        let lengths = self.lengths;
+        let serials = self.serials;
+        BufferPool {
+            capacity: self.capacity,
+            overflow: self.overflow,
+            live: self.live,
+            starts: starts,
+            lengths: lengths,
+            serials: serials,
+            given: self.given,
+            back_start: back_start,
+            back_len: back_len,
+            used: used,
+            raw_offset: raw_offset,
+            raw_len: self.raw_len,
+            mode: mode,
+            kept: self.kept,
+            cursor: self.cursor,
+            reserved: self.reserved,
+        }
+    }
+
+    // The record with other numbers of the frame, in both memories.
+    pub(crate) fn framed(self, mode: PoolMode, raw_offset: u64, raw_len: u64, kept: u64, cursor: u64, reserved: u64) -> Self
+        ensures { λ r. ⌜ r ≡ framed self mode «raw_offset» «raw_len» kept cursor reserved ⌝ }
+    {
+        let starts = self.starts;
+        let lengths = self.lengths;
+        let serials = self.serials;
+        BufferPool {
+            capacity: self.capacity,
+            overflow: self.overflow,
+            live: self.live,
+            starts: starts,
+            lengths: lengths,
+            serials: serials,
+            given: self.given,
+            back_start: self.back_start,
+            back_len: self.back_len,
+            used: self.used,
+            raw_offset: raw_offset,
+            raw_len: raw_len,
+            mode: mode,
+            kept: kept,
+            cursor: cursor,
+            reserved: reserved,
+        }
+    }
+}

@@ -1,0 +1,7 @@
+// The frame pool: the buffer pool of stratum-mining/stratum (`buffer_sv2`), over a record by value and two lent memories.
+// Every function here is proved to meet its contract. No public function has a `requires`: a call refuses by number, and a
+// refused call changes nothing.
+pub mod buffer_pool;
+mod inner_memory;
+pub mod moves;
+pub mod slice;

@@ -1,0 +1,5 @@
+pub mod Lists
+pub mod Copies
+pub mod Tests
+pub mod Bits
+pub mod Slots

@@ -1,0 +1,204 @@
+//! Document 01's proved cases and its listing, asked of the Rust. The expected values are typed in
+//! from document 01; nothing here is copied from what the driver prints.
+
+use crate::calls::Event;
+use crate::classes::Tally;
+use crate::generate;
+use crate::judge::{Answer, Judge};
+use crate::text;
+
+/// Capacity 17, overflow 20, eight slices of 2 bytes taken.
+const OCTET: &str = "pool 17 overflow 20
+    r 2; c 2; t; r 2; c 2; t; r 2; c 2; t; r 2; c 2; t
+    r 2; c 2; t; r 2; c 2; t; r 2; c 2; t; r 2; c 2; t\n";
+
+/// A pool after the events of a text, and the answer to each.
+struct Done {
+    judge: Judge,
+    answers: Vec<Answer>,
+}
+
+fn done(text: &str) -> Done {
+    let lists = text::parse(text).expect("a good text");
+    let mut done =
+        Done { judge: Judge::new(lists[0].capacity, lists[0].overflow), answers: Vec::new() };
+    for event in &lists[0].events {
+        done.answers.push(done.judge.apply(event));
+    }
+    done
+}
+
+/// The eight slices of Octet, then the events of a text.
+fn octet(text: &str) -> Done {
+    done(&format!("{OCTET}{text}"))
+}
+
+impl Done {
+    fn last(&self) -> &Answer {
+        self.answers.last().expect("an event")
+    }
+
+    fn mode(&self) -> char {
+        self.judge.situation().record.mode.letter()
+    }
+
+    fn live(&self) -> u8 {
+        self.judge.situation().record.live
+    }
+
+    /// Mode, start and count of mode changes after a last reserve that is done.
+    fn placed(&self) -> (char, usize, u32) {
+        assert_eq!(self.last().refusal, 0);
+        (self.mode(), self.last().start, self.last().changes)
+    }
+
+    /// The refusals of the last `count` events.
+    fn refusals(&self, count: usize) -> Vec<u8> {
+        let from = self.answers.len() - count;
+        self.answers[from..].iter().map(|answer| answer.refusal).collect()
+    }
+}
+
+#[test]
+fn slot_1_is_0x80_and_slot_8_is_0x01() {
+    assert_eq!(octet("d 2; d 3; d 4; d 5; d 6; d 7; d 8").live(), 0x80);
+    assert_eq!(octet("d 1; d 2; d 3; d 4; d 5; d 6; d 7").live(), 0x01);
+}
+
+#[test]
+fn a_pool_of_no_bytes() {
+    let (mode, start, _) = done("pool 0 overflow 4\nr 0").placed();
+    assert_eq!((mode, start), ('B', 0));
+    assert_eq!(done("pool 0 overflow 4\nr 0; r 1").placed().0, 'A');
+    assert_eq!(done("pool 0 overflow 4\nr 0; r 1; r 0").placed().0, 'A');
+}
+
+#[test]
+fn a_reserve_of_the_capacity_and_of_one_more() {
+    assert_eq!(done("pool 16 overflow 20\nr 16").placed().0, 'B');
+    assert_eq!(done("pool 16 overflow 20\nr 17").placed().0, 'A');
+}
+
+#[test]
+fn a_commit_spends_the_reservation() {
+    let done = done("pool 16 overflow 20\nr 6\nc 7; c 6; c 1; c 0");
+    assert_eq!(done.refusals(4), [5, 0, 5, 0]);
+}
+
+#[test]
+fn a_truncate_that_cuts_nothing_spends_the_reservation() {
+    let done = done("pool 16 overflow 20\nr 6; c 6\nr 4; k 9; c 1");
+    assert_eq!(done.refusals(3), [0, 0, 5]);
+    assert_eq!(done.answers[3].len, 6);
+}
+
+#[test]
+fn a_head_clear_with_an_exact_fit_and_one_more() {
+    assert_eq!(octet("d 1; d 2\nr 4").placed(), ('F', 0, 1));
+    assert_eq!(octet("d 1; d 2\nr 5").placed(), ('A', 0, 2));
+}
+
+#[test]
+fn a_frame_moves_from_the_front_to_the_back() {
+    let before = octet("d 1; d 2\nr 3; c 3; d 7; d 8");
+    let after = octet("d 1; d 2\nr 3; c 3; d 7; d 8\nr 2");
+    let frame_start = |done: &Done| done.judge.situation().record.frame_start;
+    let (mode, start, _) = after.placed();
+    assert_eq!((mode, start), ('B', 15));
+    assert_eq!(frame_start(&after), frame_start(&before) + 12);
+}
+
+#[test]
+fn the_same_with_one_more_goes_to_the_overflow() {
+    let (mode, start, _) = octet("d 1; d 2\nr 3; c 3; d 7; d 8\nr 3").placed();
+    assert_eq!((mode, start), ('A', 3));
+}
+
+#[test]
+fn the_back_resumes_after_a_live_front_slot_and_stays_there() {
+    let events = "d 1; d 2\nr 3; c 3; t; d 3; d 4; d 5; d 6; d 7; d 8\nr 2";
+    let (mode, start, _) = octet(events).placed();
+    assert_eq!((mode, start), ('B', 3));
+    let after = octet(&format!("{events}; d 9; r 1"));
+    assert_eq!(after.live(), 0);
+    assert_eq!(after.placed().1, 3);
+    assert_eq!(after.judge.situation().record.back_count, 0);
+}
+
+#[test]
+fn the_overflow_keeps_what_a_take_leaves() {
+    let abcde = "w r 0 61; w r 1 62; w r 2 63; w r 3 64; w r 4 65";
+    let done = done(&format!("pool 0 overflow 8\nr 5; {abcde}; c 2; t\nr 4"));
+    assert_eq!(done.judge.reservation(), b"cde\0");
+}
+
+#[test]
+fn a_second_release_is_refused() {
+    assert_eq!(done("pool 16 overflow 20\nr 6; c 6; t\nd 1; d 1").refusals(2), [0, 7]);
+}
+
+/// The listing of document 01, as it stands there. Its last column is the move, not the changes.
+const LISTING: &str = "\
+pool 16 overflow 12
+1 r 0 B 00 0 6 0
+2 c 0 B 00 0 6 0
+3 t 0 B 80 0 6 0
+4 r 4 B 80 0 0 0
+5 r 0 B 80 6 8 0
+6 c 5 B 80 0 0 0
+7 c 0 B 80 6 4 0
+8 r 0 A 80 4 7 0
+9 k 0 A 80 0 3 0
+10 t 0 A 80 0 3 0
+11 d 0 A 00 0 6 0
+12 r 0 B 00 0 16 0
+T 10 2 50 0
+";
+
+#[test]
+fn the_listing_of_poolreplay() {
+    let list = text::parse(
+        "pool 16 overflow 12
+         r 6; c 6; t; r 13; r 8; c 9; c 4; r 7; k 3; t; d 1; r 16",
+    )
+    .expect("a good text")
+    .remove(0);
+    let mut judge = Judge::new(list.capacity, list.overflow);
+    let mut printed = format!("pool {} overflow {}\n", list.capacity, list.overflow);
+    let (mut refused, mut pooled, mut copied) = (0, 0, 0);
+    for (at, event) in list.events.iter().enumerate() {
+        let before = judge.situation().record;
+        let answer = judge.apply(event);
+        let record = judge.situation().record;
+        let in_pool = before.mode.letter() != 'A' && record.mode.letter() != 'A';
+        let moved = match event {
+            Event::Reserve(_) if in_pool => record.frame_start as i64 - before.frame_start as i64,
+            _ => 0,
+        };
+        refused += usize::from(answer.refusal != 0);
+        if let (Event::Take(_), 0, 1..) = (event, answer.refusal, answer.len) {
+            copied += usize::from(!answer.copied.is_empty());
+            pooled += usize::from(answer.copied.is_empty());
+        }
+        let (letter, refusal, mode) = (event.letter(), answer.refusal, record.mode.letter());
+        let (live, start, len) = (record.live, answer.start, answer.len);
+        let number = at + 1;
+        printed += &format!("{number} {letter} {refusal} {mode} {live:02x} {start} {len} {moved}\n");
+    }
+    let percent = copied * 100 / (copied + pooled);
+    let held: usize = judge.slices().map(|(_, bytes)| bytes.len()).sum();
+    printed += &format!("T {} {refused} {percent} {held}\n", list.events.len() - refused);
+    assert_eq!(printed, LISTING);
+}
+
+/// Lists from a seed in the unoptimised build: no sum wraps, nothing panics, and every event is of
+/// a known class.
+#[test]
+fn generated_lists_reach_known_classes_only() {
+    let options = generate::Options { seed: 2, count: 600, capacity: 40, events: 120, cover: 0 };
+    let mut tally = Tally::new();
+    for list in generate::lists(&options) {
+        tally.add_list(&list);
+    }
+    assert_eq!(tally.unknown(), 0);
+}

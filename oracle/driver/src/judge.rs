@@ -1,0 +1,324 @@
+//! The Rust as judge: a real pool to which a list is done, and what it answers.
+
+use crate::calls::{Event, View};
+use crate::changes;
+use crate::record::{mask, slot_of, Mode, Pool, Record, SLOTS};
+use buffer_sv2::{Buffer, Slice};
+
+/// The refusals of document 01 that a call on a sound record can meet.
+pub const OVERFLOW_TOO_SHORT: u8 = 4;
+pub const COMMIT_TOO_LONG: u8 = 5;
+pub const DESTINATION_TOO_SHORT: u8 = 6;
+pub const NOT_LIVE: u8 = 7;
+
+/// What an event gave: a refusal number or 0, a place, and at a reserve the count of mode changes.
+#[derive(Debug, Default, PartialEq)]
+pub struct Answer {
+    pub refusal: u8,
+    pub start: usize,
+    pub len: usize,
+    pub changes: u32,
+    /// The frame that a take copied out of the overflow.
+    pub copied: Vec<u8>,
+}
+
+impl Answer {
+    fn refused(refusal: u8) -> Answer {
+        Answer { refusal, ..Answer::default() }
+    }
+
+    fn place((start, len): (usize, usize)) -> Answer {
+        Answer { start, len, ..Answer::default() }
+    }
+}
+
+/// The numbers that stand between two events.
+#[derive(Clone, Copy, Debug)]
+pub struct Situation {
+    pub record: Record,
+    pub capacity: usize,
+    pub overflow: usize,
+    /// The frame's length, in whichever memory it lies.
+    pub frame_len: usize,
+    /// The reservation's length, 0 once it is spent.
+    pub reserved: usize,
+}
+
+/// A slice that was taken out of the pool and not released.
+struct Held {
+    serial: u32,
+    slice: Slice,
+    start: usize,
+}
+
+/// A real pool, with what its callers hold.
+pub struct Judge {
+    pool: Pool,
+    /// Where the pool memory starts.
+    base: *const u8,
+    capacity: usize,
+    overflow: usize,
+    /// The range last offered by a reserve. It is read only while it is not spent.
+    offer: *mut u8,
+    reserved: usize,
+    /// The held slices, by slot.
+    held: [Option<Held>; SLOTS],
+    /// Serials given.
+    serials: u32,
+    /// Every call that was not refused: what a twin replays.
+    accepted: Vec<Event>,
+    record: Record,
+}
+
+impl Judge {
+    /// A new pool. Its first reservation, of no bytes, shows where its memory starts.
+    pub fn new(capacity: u32, overflow: u32) -> Judge {
+        let mut pool = Pool::new(capacity as usize);
+        let offer = pool.reserve(0).as_mut_ptr();
+        let record = Record::read(&pool);
+        Judge {
+            pool,
+            base: offer,
+            capacity: capacity as usize,
+            overflow: overflow as usize,
+            offer,
+            reserved: 0,
+            held: Default::default(),
+            serials: 0,
+            accepted: Vec::new(),
+            record,
+        }
+    }
+
+    /// Does one event and gives its answer.
+    pub fn apply(&mut self, event: &Event) -> Answer {
+        let answer = match *event {
+            Event::Reserve(len) => self.reserve(len),
+            Event::Commit(len) => self.commit(len),
+            Event::Take(destination) => self.take(destination),
+            Event::Truncate(len) => self.truncate(len),
+            Event::Release(serial) => self.release(serial),
+            Event::Write { view, index, value } => self.write(view, index, value),
+        };
+        if answer.refusal == 0 && event.letter() != 'w' {
+            self.accepted.push(*event);
+        }
+        self.record = Record::read(&self.pool);
+        self.cross_check();
+        answer
+    }
+
+    /// 4 if the Rust would use the heap for more than the overflow has; else what it offers.
+    fn reserve(&mut self, len: u64) -> Answer {
+        let needed = self.pool.len() as u128 + u128::from(len);
+        if needed > self.overflow as u128 && self.would_use_overflow(len) {
+            return Answer::refused(OVERFLOW_TOO_SHORT);
+        }
+        changes::take();
+        let offer = self.pool.reserve(len as usize);
+        (self.offer, self.reserved) = (offer.as_mut_ptr(), offer.len());
+        let changes = changes::take();
+        let (frame, end) = (self.pool.frame(), self.frame_end());
+        assert_eq!(self.offer as *const u8, frame.as_ptr_range().end, "the offer extends the frame");
+        Answer { changes, ..Answer::place((end, self.reserved)) }
+    }
+
+    /// Whether a reserve would end in the overflow: a twin tries it. A length above the capacity
+    /// fits nowhere in the pool, so one byte above it decides the same and allocates little.
+    fn would_use_overflow(&self, len: u64) -> bool {
+        let mut twin = replay(self.capacity, &self.accepted);
+        twin.pool.reserve(len.min(self.capacity as u64 + 1) as usize);
+        twin.pool.is_alloc_mode()
+    }
+
+    /// 5 if the length exceeds the reservation, where the Rust panics.
+    fn commit(&mut self, len: u64) -> Answer {
+        if len > self.reserved as u64 {
+            return Answer::refused(COMMIT_TOO_LONG);
+        }
+        self.pool.commit(len as usize);
+        self.reserved = 0;
+        Answer::place(self.frame_place())
+    }
+
+    /// 6 if the frame lies in the overflow and is longer than the destination.
+    fn take(&mut self, destination: u64) -> Answer {
+        let (start, len) = self.frame_place();
+        if self.pool.is_alloc_mode() && len as u64 > destination {
+            return Answer::refused(DESTINATION_TOO_SHORT);
+        }
+        let slice = self.pool.get_data_owned();
+        self.reserved = 0;
+        assert_eq!(slice.len(), len, "a take gives the frame");
+        match slot_of(&slice) {
+            Some(slot) => {
+                assert_eq!(slice.as_ref().as_ptr(), self.base.wrapping_add(start));
+                self.serials += 1;
+                let held = Held { serial: self.serials, slice, start };
+                assert!(self.held[slot - 1].replace(held).is_none(), "the slot was free");
+                Answer::place((start, len))
+            }
+            None => Answer { copied: slice.as_ref().to_vec(), ..Answer::place((0, len)) },
+        }
+    }
+
+    fn truncate(&mut self, len: u64) -> Answer {
+        self.pool.truncate(usize::try_from(len).unwrap_or(usize::MAX));
+        self.reserved = 0;
+        Answer::place(self.frame_place())
+    }
+
+    /// 7 if no live slice has the serial.
+    fn release(&mut self, serial: u32) -> Answer {
+        match self.find(serial) {
+            Some(at) => {
+                let held = self.held[at].take().expect("found");
+                Answer::place((held.start, held.slice.len()))
+            }
+            None => Answer::refused(NOT_LIVE),
+        }
+    }
+
+    /// Writes one byte through a view, if the view reaches that far, and gives the view's place. A
+    /// serial that is not live has an empty view.
+    fn write(&mut self, view: View, index: u64, value: u8) -> Answer {
+        let place = self.view_place(view);
+        if index < place.1 as u64 {
+            self.bytes_mut(view)[index as usize] = value;
+        }
+        Answer::place(place)
+    }
+
+    fn view_place(&self, view: View) -> (usize, usize) {
+        match view {
+            View::Reservation => (self.frame_end(), self.reserved),
+            View::Frame => self.frame_place(),
+            View::Slice(serial) => match self.find(serial) {
+                Some(at) => self.held[at].as_ref().map(Held::place).expect("found"),
+                None => (0, 0),
+            },
+        }
+    }
+
+    fn bytes_mut(&mut self, view: View) -> &mut [u8] {
+        match view {
+            View::Reservation => unsafe {
+                std::slice::from_raw_parts_mut(self.offer, self.reserved)
+            },
+            View::Frame => self.pool.frame_mut(),
+            View::Slice(serial) => {
+                let at = self.find(serial).expect("a live serial");
+                self.held[at].as_mut().expect("found").slice.as_mut()
+            }
+        }
+    }
+
+    /// The index of the live slice with this serial.
+    fn find(&self, serial: u32) -> Option<usize> {
+        let has = |held: &Option<Held>| held.as_ref().is_some_and(|held| held.serial == serial);
+        self.held.iter().position(has)
+    }
+
+    /// Start and length of the frame; in the overflow it starts at 0.
+    fn frame_place(&self) -> (usize, usize) {
+        let frame = self.pool.frame();
+        match self.pool.is_alloc_mode() {
+            true => (0, frame.len()),
+            false => (frame.as_ptr() as usize - self.base as usize, frame.len()),
+        }
+    }
+
+    /// Where the frame ends, which is where every reservation starts.
+    fn frame_end(&self) -> usize {
+        let (start, len) = self.frame_place();
+        start + len
+    }
+
+    /// What can be seen in two ways is the same in both.
+    fn cross_check(&self) {
+        let held = (1..=SLOTS).filter(|&p| self.held[p - 1].is_some());
+        assert_eq!(held.fold(0, |bits, p| bits | mask(p)), self.record.live, "live bits");
+        for (p, held) in (1..=SLOTS).zip(&self.held) {
+            if let Some(held) = held {
+                assert_eq!(held.place(), self.record.slots[p - 1], "slot {p}");
+            }
+        }
+        if self.record.mode != Mode::Overflow {
+            let place = (self.record.frame_start, self.record.frame_len);
+            assert_eq!(self.frame_place(), place, "the frame");
+        }
+    }
+
+    pub fn situation(&self) -> Situation {
+        Situation {
+            record: self.record,
+            capacity: self.capacity,
+            overflow: self.overflow,
+            frame_len: self.pool.len(),
+            reserved: self.reserved,
+        }
+    }
+
+    /// The live serials, in slot order.
+    pub fn live_serials(&self) -> Vec<u32> {
+        self.held.iter().flatten().map(|held| held.serial).collect()
+    }
+
+    /// How many serials were given.
+    pub fn serials(&self) -> u32 {
+        self.serials
+    }
+
+    pub fn frame(&self) -> &[u8] {
+        self.pool.frame()
+    }
+
+    pub fn reservation(&self) -> &[u8] {
+        unsafe { std::slice::from_raw_parts(self.offer, self.reserved) }
+    }
+
+    /// The live slices with their slots, 1 to 8, in that order.
+    pub fn slices(&self) -> impl Iterator<Item = (usize, &[u8])> {
+        let live = |(p, held)| Option::as_ref(held).map(|held: &Held| (p, held.slice.as_ref()));
+        (1..=SLOTS).zip(&self.held).filter_map(live)
+    }
+}
+
+impl Held {
+    fn place(&self) -> (usize, usize) {
+        (self.start, self.slice.len())
+    }
+}
+
+/// A pool that has had the same calls, and the slices that it gave.
+struct Twin {
+    pool: Pool,
+    slices: Vec<Option<Slice>>,
+}
+
+/// Does accepted calls again on a new pool. Bytes decide nothing, so none are written.
+fn replay(capacity: usize, accepted: &[Event]) -> Twin {
+    let mut twin = Twin { pool: Pool::new(capacity), slices: Vec::new() };
+    for event in accepted {
+        match *event {
+            Event::Reserve(len) => drop(twin.pool.reserve(len as usize)),
+            Event::Commit(len) => twin.pool.commit(len as usize),
+            Event::Take(_) => twin.take(),
+            Event::Truncate(len) => twin.pool.truncate(usize::try_from(len).unwrap_or(usize::MAX)),
+            Event::Release(serial) => twin.slices[serial as usize - 1] = None,
+            Event::Write { .. } => {}
+        }
+    }
+    twin
+}
+
+impl Twin {
+    /// Takes, and keeps a pooled slice under its serial.
+    fn take(&mut self) {
+        let pooled = !self.pool.is_alloc_mode() && !self.pool.is_empty();
+        let slice = self.pool.get_data_owned();
+        if pooled {
+            self.slices.push(Some(slice));
+        }
+    }
+}

@@ -1,0 +1,126 @@
+//! Lists written by hand: the text form of a calls file. README.md describes it.
+
+use crate::calls::{check_lengths, Event, List, View};
+use std::fmt::Write as _;
+use std::str::FromStr;
+
+/// The lists that a text holds, or the number of the first bad line and what is wrong with it.
+pub fn parse(text: &str) -> Result<Vec<List>, String> {
+    let mut lists: Vec<List> = Vec::new();
+    for (at, line) in text.lines().enumerate() {
+        let said = line.split('#').next().unwrap_or("");
+        for part in said.split(';') {
+            let words: Vec<&str> = part.split_whitespace().collect();
+            parse_part(&words, &mut lists).map_err(|cause| format!("line {}: {cause}", at + 1))?;
+        }
+    }
+    Ok(lists)
+}
+
+/// Adds what one part of a line says: nothing, a new list, or an event of the last list.
+fn parse_part(words: &[&str], lists: &mut Vec<List>) -> Result<(), String> {
+    match words {
+        [] => {}
+        ["pool", capacity, "overflow", overflow] => {
+            let (capacity, overflow) = (number(capacity)?, number(overflow)?);
+            check_lengths(capacity, overflow)?;
+            lists.push(List { capacity, overflow, events: Vec::new() });
+        }
+        _ => {
+            let list = lists.last_mut().ok_or("a list starts with `pool`")?;
+            list.events.push(parse_event(words, list.overflow)?);
+        }
+    }
+    Ok(())
+}
+
+/// The event that the words say. A take without a number is lent as many bytes as the overflow has.
+fn parse_event(words: &[&str], overflow: u32) -> Result<Event, String> {
+    Ok(match words {
+        ["r", len] => Event::Reserve(number(len)?),
+        ["c", len] => Event::Commit(number(len)?),
+        ["t"] => Event::Take(overflow.into()),
+        ["t", destination] => Event::Take(number(destination)?),
+        ["k", len] => Event::Truncate(number(len)?),
+        ["d", serial] => Event::Release(number(serial)?),
+        ["w", view, index, byte] => Event::Write {
+            view: parse_view(view)?,
+            index: number(index)?,
+            value: u8::from_str_radix(byte, 16).map_err(|_| format!("`{byte}` is no byte"))?,
+        },
+        _ => return Err(format!("`{}` is no event", words.join(" "))),
+    })
+}
+
+fn parse_view(word: &str) -> Result<View, String> {
+    match word {
+        "r" => Ok(View::Reservation),
+        "f" => Ok(View::Frame),
+        serial => Ok(View::Slice(number(serial)?)),
+    }
+}
+
+fn number<T: FromStr>(word: &str) -> Result<T, String> {
+    word.parse().map_err(|_| format!("`{word}` is no number here"))
+}
+
+/// The text that says these lists.
+pub fn print(lists: &[List]) -> String {
+    let mut out = String::new();
+    for (at, list) in lists.iter().enumerate() {
+        let gap = if at == 0 { "" } else { "\n" };
+        let _ = writeln!(out, "{gap}pool {} overflow {}", list.capacity, list.overflow);
+        for event in &list.events {
+            let _ = writeln!(out, "{} {}", event.letter(), arguments(event));
+        }
+    }
+    out
+}
+
+fn arguments(event: &Event) -> String {
+    match event {
+        Event::Reserve(number)
+        | Event::Commit(number)
+        | Event::Take(number)
+        | Event::Truncate(number) => number.to_string(),
+        Event::Release(serial) => serial.to_string(),
+        Event::Write { view, index, value } => match view {
+            View::Reservation => format!("r {index} {value:02x}"),
+            View::Frame => format!("f {index} {value:02x}"),
+            View::Slice(serial) => format!("{serial} {index} {value:02x}"),
+        },
+    }
+}
+
+#[cfg(test)]
+mod tests {
+    use super::*;
+
+    #[test]
+    fn what_is_printed_is_parsed_back() {
+        let text = "pool 17 overflow 20\nr 2\nw r 0 61\nc 2\nw f 1 0a\nt 20\nw 1 0 ff\nk 3\nd 1\n\n\
+                    pool 0 overflow 0\nr 18446744073709551615\n";
+        assert_eq!(print(&parse(text).unwrap()), text);
+    }
+
+    #[test]
+    fn comments_and_blank_lines_say_nothing() {
+        let text = "# one\n\npool 1 overflow 7 # two\n  t; r 3\n";
+        let events = vec![Event::Take(7), Event::Reserve(3)];
+        let list = List { capacity: 1, overflow: 7, events };
+        assert_eq!(parse(text), Ok(vec![list]));
+    }
+
+    #[test]
+    fn a_bad_line_is_named() {
+        let cause = |text: &str| parse(text).unwrap_err();
+        assert_eq!(cause("r 1"), "line 1: a list starts with `pool`");
+        assert_eq!(cause("pool 1 overflow 1\nr x"), "line 2: `x` is no number here");
+        assert_eq!(cause("pool 1 overflow 1\nr 1 2"), "line 2: `r 1 2` is no event");
+        assert_eq!(cause("pool 1 overflow 1\nw r 0 100"), "line 2: `100` is no byte");
+        assert_eq!(
+            cause("pool 1 overflow 1048577"),
+            "line 1: a memory is longer than 1048576 bytes"
+        );
+    }
+}
