@@ -3,3 +3,16 @@ pub mod SliceLaws
 pub mod ByteLaws
 pub mod BoundLaws
 pub mod MoveLaws
+pub mod BackLaws
+pub mod LayerLaws
+pub mod FrontLaws
+pub mod Order
+pub mod Soundness
+pub mod Parts
+pub mod Rules
+pub mod ReserveKept
+pub mod Unchanged
+pub mod Changes
+pub mod StepsKept
+pub mod Ranges
+pub mod SoundKept

@@ -2,6 +2,7 @@ pub mod Record
 pub mod Moves
 pub mod MoveList
 pub mod Placing
+pub mod Deciding
 pub mod Soundness
 pub mod Sound
 pub mod Steps

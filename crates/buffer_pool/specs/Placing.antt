@@ -65,10 +65,11 @@ headFits w r = leb 1 (frontSlots w r) && (ltb (frontSlots w r) w && ltb (r .«ra
 
 -- "If f > s, the boundary s becomes f and n falls by the difference. F then has f slots and the bytes below that start, and
 -- the frame moves to 0": `max` and the difference that stops at 0 say the "if"
+abbrev pub headClearedTo : BufferPool → ℕ → ℕ → BufferPool
+headClearedTo r f bytes = placed r (front f bytes 0) (max (r .«back_start») f) (r .«back_len» - (f - r .«back_start»)) 0 0
+
 abbrev pub headCleared : ℕ → BufferPool → BufferPool
-headCleared w r =
-    placed r (front (frontSlots w r) (frontBytes w r) 0) (max (r .«back_start») (frontSlots w r))
-    (r .«back_len» - (frontSlots w r - r .«back_start»)) 0 0
+headCleared w r = headClearedTo r (frontSlots w r) (frontBytes w r)
 
 -- ---- The overflow
 
@@ -185,12 +186,22 @@ allocOn false true h w r = change false (tailCleared w r) []
 allocOn false false true w r = change false (headCleared w r) []
 allocOn false false false w r = stay Alloc r []
 
-unfoldable pub layer : ℕ → Bool → PoolMode → BufferPool → ℕ → Layer
-layer w entered Back r len = backOn (backFits w r len) (clearable w r) (tailFits w r len) (headFits w r) w r
-layer w entered (Front f) r len =
+-- the three, with their tests made
+unfoldable pub backLayer : ℕ → BufferPool → ℕ → Layer
+backLayer w r len = backOn (backFits w r len) (clearable w r) (tailFits w r len) (headFits w r) w r
+
+unfoldable pub frontLayer : ℕ → PoolFront → BufferPool → ℕ → Layer
+frontLayer w f r len =
     frontOn (ltb (f .len) (f .«back_start») && frontFits r (f .«byte_capacity») len) (ltb (frontLast w r f) (f .len))
     (frontFits (frontCleared w r f) (f .«byte_capacity») len) w r f len
-layer w entered Alloc r len = allocOn (stays w entered r) (tailFits w r len) (headFits w r) w r
+
+unfoldable pub allocLayer : ℕ → Bool → BufferPool → ℕ → Layer
+allocLayer w entered r len = allocOn (stays w entered r) (tailFits w r len) (headFits w r) w r
+
+unfoldable pub layer : ℕ → Bool → PoolMode → BufferPool → ℕ → Layer
+layer w entered Back r len = backLayer w r len
+layer w entered (Front f) r len = frontLayer w f r len
+layer w entered Alloc r len = allocLayer w entered r len
 
 -- ---- "`reserve_` calls itself after each mode change"
 

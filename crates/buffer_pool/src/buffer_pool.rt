@@ -1,7 +1,6 @@
 // The pool's record, its modes and what its calls answer (buffer_pool/mod.rs of the Rust).
 ghost use mathlib.Core.Path.{_≡_};
 ghost use Rattle.buffer_pool.specs.Record.{newRecord, placed, framed};
-
 use crate::slice::Handle;
 
 // The front part of the pool. Its slots are those up to `back_start`, its bytes those below `byte_capacity`, and `len` of
@@ -125,7 +124,14 @@ impl BufferPool {
     }
 
     // The record with another mode, back, count of used slots and frame start.
-    pub(crate) fn placed(self, mode: PoolMode, back_start: usize, back_len: usize, used: usize, raw_offset: u64) -> Self
+    pub(crate) fn placed(
+        self,
+        mode: PoolMode,
+        back_start: usize,
+        back_len: usize,
+        used: usize,
+        raw_offset: u64,
+    ) -> Self
         ensures { λ r. ⌜ r ≡ placed self mode «back_start» «back_len» used «raw_offset» ⌝ }
     {
         let starts = self.starts;
@@ -152,7 +158,15 @@ impl BufferPool {
     }
 
     // The record with other numbers of the frame, in both memories.
-    pub(crate) fn framed(self, mode: PoolMode, raw_offset: u64, raw_len: u64, kept: u64, cursor: u64, reserved: u64) -> Self
+    pub(crate) fn framed(
+        self,
+        mode: PoolMode,
+        raw_offset: u64,
+        raw_len: u64,
+        kept: u64,
+        cursor: u64,
+        reserved: u64,
+    ) -> Self
         ensures { λ r. ⌜ r ≡ framed self mode «raw_offset» «raw_len» kept cursor reserved ⌝ }
     {
         let starts = self.starts;

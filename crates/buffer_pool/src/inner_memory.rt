@@ -2,6 +2,7 @@
 // buffer_pool/mod.rs of the Rust).
 ghost use mathlib.Core.Path.{_≡_};
 ghost use Prim.Native.Nat.{_+_, _≤_};
+ghost use Prim.Native.Nat as spec;
 ghost use lib.Dec.{leb};
 ghost use lib.ListN.{length};
 ghost use Rattle.laws.specs.Lists.{copied, moved, zeroed};
@@ -22,7 +23,11 @@ pub(crate) fn in_bounds(end: u64, offset: u64, used: u64, len: u64) -> bool
 }
 
 // The end of the slice of slot `len`, and 0 for no slot.
-pub(crate) fn raw_offset_from_len<'a>(starts: &'a [u32; 8], lengths: &'a [u32; 8], len: usize) -> u64
+pub(crate) fn raw_offset_from_len<'a>(
+    starts: &'a [u32; 8],
+    lengths: &'a [u32; 8],
+    len: usize,
+) -> u64
     requires { ⌜ len ≤ 8 ⌝ }
     ensures { λ r. ⌜ r ≡ after (now (starts .entry)) (now (lengths .entry)) len ⌝ }
 {
@@ -38,6 +43,16 @@ pub(crate) fn wide(x: u32) -> u64
     ensures { λ r. ⌜ (r ≡ x) × (r ≤ 4294967295) ⌝ }
 {
     x as u64
+}
+
+// The larger of two numbers.
+pub(crate) fn max(a: u64, b: u64) -> u64
+    ensures { λ r. ⌜ r ≡ spec.max a b ⌝ }
+{
+    if a < b {
+        return b;
+    }
+    a
 }
 
 // `len` bytes of `src` from `start` on go to `dst` from `to` on.

@@ -4,4 +4,7 @@
 pub mod buffer_pool;
 mod inner_memory;
 pub mod moves;
+mod placing;
+mod pool_back;
+mod pool_front;
 pub mod slice;

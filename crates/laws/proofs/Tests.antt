@@ -5,9 +5,9 @@ use mathlib.Core.Logic.{_⊎_, inl, inr}
 use Prim.Native.Nat.{ℕ, zero, suc, _+_, _≤_, _<_}
 use native.Mathlib.Nat.{eq-or-lt-of-le, le-refl}
 use native.Mathlib.Omega.{arith}
-use borrow.Author.Tests.{eqb-true}
-use lib.Dec.{eqb}
-use Rattle.laws.specs.Tests.{implies, every}
+use borrow.Author.Tests.{leb-true, ltb-true, eqb-true}
+use lib.Dec.{leb, ltb, eqb}
+use Rattle.laws.specs.Tests.{pick, implies, every}
 
 pub no-true : false ≡ true → ⊥
 no-true e = let z : _≡_ {A = ℕ} 0 1 = cc in omega arith
@@ -70,3 +70,18 @@ pub every-make : (f : ℕ → Bool) (a n : ℕ) → ((p : ℕ) → a ≤ p → p
 unfolding every
 every-make f a zero g = refl
 every-make f a (suc n) g = both (g a (le-refl a) (omega arith)) (every-make f (suc a) n (λ p h k. g p (omega arith) (omega arith)))
+
+-- a comparison and what follows it, of a conjunction
+pub leb-and : (a b : ℕ) {c : Bool} → (leb a b && c) ≡ true → (a ≤ b) × (c ≡ true)
+leb-and a b e = let t = both-true (leb a b) _ e in (leb-true a b (t .0), t .1)
+
+pub ltb-and : (a b : ℕ) {c : Bool} → (ltb a b && c) ≡ true → (a < b) × (c ≡ true)
+ltb-and a b e = let t = both-true (ltb a b) _ e in (ltb-true a b (t .0), t .1)
+
+pub eqb-and : (a b : ℕ) {c : Bool} → (eqb a b && c) ≡ true → (a ≡ b) × (c ≡ true)
+eqb-and a b e = let t = both-true (eqb a b) _ e in (eqb-true a b (t .0), t .1)
+
+-- what holds of either choice, by the test
+pub pick-cases : {A : Type 0} (P : A → Type 0) (t : Bool) {a b : A} → (t ≡ true → P a) → (t ≡ false → P b) → P (pick t a b)
+pick-cases P true f g = f refl
+pick-cases P false f g = g refl

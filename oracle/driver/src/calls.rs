@@ -26,7 +26,11 @@ pub enum Event {
     /// Release the slice with this serial.
     Release(u32),
     /// Set the byte at an index of a view.
-    Write { view: View, index: u64, value: u8 },
+    Write {
+        view: View,
+        index: u64,
+        value: u8,
+    },
 }
 
 /// What a write goes through.
@@ -200,9 +204,6 @@ mod tests {
         assert_eq!(broken(12, 9), Err("list 1: event 1 is none".into()));
         assert_eq!(broken(8, 2), Err("list 1: its events are cut short".into()));
         assert_eq!(decode(&good[..11]), Err("list 1: its head is cut short".into()));
-        assert_eq!(
-            broken(3, 1),
-            Err("list 1: a memory is longer than 1048576 bytes".into())
-        );
+        assert_eq!(broken(3, 1), Err("list 1: a memory is longer than 1048576 bytes".into()));
     }
 }

@@ -183,7 +183,8 @@ fn the_listing_of_poolreplay() {
         let (letter, refusal, mode) = (event.letter(), answer.refusal, record.mode.letter());
         let (live, start, len) = (record.live, answer.start, answer.len);
         let number = at + 1;
-        printed += &format!("{number} {letter} {refusal} {mode} {live:02x} {start} {len} {moved}\n");
+        printed +=
+            &format!("{number} {letter} {refusal} {mode} {live:02x} {start} {len} {moved}\n");
     }
     let percent = copied * 100 / (copied + pooled);
     let held: usize = judge.slices().map(|(_, bytes)| bytes.len()).sum();

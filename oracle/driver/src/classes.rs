@@ -5,6 +5,7 @@
 use crate::calls::{Event, List, View, BYTE_LIMIT};
 use crate::judge::{Answer, Judge, Situation};
 use crate::record::{Mode, Record, SLOTS};
+use std::cmp::Ordering;
 
 /// Every class, in the order they are printed. Each must be reached, and no other may be.
 const CLASSES: &[&str] = &[
@@ -60,6 +61,10 @@ const CLASSES: &[&str] = &[
     // What a head clear does to the boundary.
     "head clear, boundary moves",
     "head clear, boundary stays",
+    "head clear, below a live front slot",
+    // Where the front puts the frame when it drops its own freed slots.
+    "F drops, frame to 0",
+    "F drops, frame after a live slot",
     // No live slot, and yet no reset, as n is 0: a reset would have moved the frame.
     "B, no live slot, no reset, frame not at 0",
     "A, no live slot, no reset, frame shorter than the pool",
@@ -274,7 +279,11 @@ fn letter(situation: &Situation) -> char {
 
 /// "frame" or "empty".
 fn frame(situation: &Situation) -> &'static str {
-    if situation.frame_len > 0 { "frame" } else { "empty" }
+    if situation.frame_len > 0 {
+        "frame"
+    } else {
+        "empty"
+    }
 }
 
 /// Whether a reserve begins with a reset.
@@ -309,6 +318,7 @@ fn reserve(before: &Situation, len: u64, answer: &Answer, judge: &Judge) -> Vec<
     let mut names = vec![move_class(before, len, &after, answer.changes)];
     names.extend(overflow_cause(before, &after, answer.changes));
     names.extend(clears(before, &after, answer.changes));
+    names.extend(front_drop(before, len));
     names.extend(offers(before, &after, len, judge));
     names
 }
@@ -357,16 +367,33 @@ fn clears(before: &Situation, after: &Situation, changes: u32) -> Option<String>
     if resets(before) {
         return None;
     }
-    let boundary_moved = after.record.back_start != before.record.back_start;
+    let free_head = before.record.live.leading_zeros() as usize;
+    let boundary = match free_head.cmp(&before.record.back_start) {
+        Ordering::Greater => "head clear, boundary moves",
+        Ordering::Equal => "head clear, boundary stays",
+        Ordering::Less => "head clear, below a live front slot",
+    };
     let name = match (letter(before), letter(after), changes) {
         ('F' | 'A', 'B', _) => tail_clear(before, after),
         ('B', 'B', _) if after.record.back_count < before.record.back_count => {
             tail_clear(before, after)
         }
-        ('B' | 'A', 'F', _) | (_, _, 2) if boundary_moved => "head clear, boundary moves",
-        ('B' | 'A', 'F', _) | (_, _, 2) => "head clear, boundary stays",
+        ('B' | 'A', 'F', _) | (_, _, 2) => boundary,
         _ => return None,
     };
+    Some(name.to_string())
+}
+
+/// Where a front that drops its own freed slots puts the frame.
+fn front_drop(before: &Situation, len: u64) -> Option<String> {
+    let Mode::Front { used, .. } = before.record.mode else {
+        return None;
+    };
+    if resets(before) || !front_drops(before, len) {
+        return None;
+    }
+    let live_below = (1..used).any(|p| before.record.is_live(p));
+    let name = if live_below { "F drops, frame after a live slot" } else { "F drops, frame to 0" };
     Some(name.to_string())
 }
 

@@ -174,17 +174,25 @@ impl Author<'_> {
         // Front slices are all that is left: with these released no reset comes.
         let back_gone = at.record.back_start > 0 && at.record.back_count == 0;
         // A frame behind front slices: it is kept, to be moved when these are released.
-        let lingers = framed && matches!(at.record.mode, Mode::Front { used: 1.., .. });
+        let in_front = at.record.mode.letter() == 'F';
+        let lingers = in_front && framed && !front_open(at);
         let take = match (framed, lingers) {
             (_, true) => 4,
             (true, _) => 20,
             _ => 2,
         };
-        let reserve = if offered { 6 } else if framed { 14 } else { 40 };
+        let reserve = if offered {
+            6
+        } else if framed {
+            14
+        } else {
+            40
+        };
         let release = match live.count_ones() {
             0 => 1,
             _ if self.filling => 1,
             _ if lingers => 40,
+            _ if front_open(at) => 5,
             8 => 80,
             _ if used_up(at) => 16,
             _ if back_gone => 12,
@@ -213,7 +221,7 @@ impl Author<'_> {
         let huge = self.huge(at);
         let (small_weight, edge_weight) = match at.record.mode {
             _ if self.filling => (2000, 30),
-            Mode::Front { used: 0, .. } => (90, 30),
+            Mode::Front { .. } if front_open(at) => (90, 30),
             _ => (30, 40),
         };
         let choices = [(small_weight, small), (10, any), (edge_weight, edge), (3, 0), (2, huge)];
@@ -244,14 +252,21 @@ impl Author<'_> {
     fn huge(&mut self, at: &Situation) -> u64 {
         let frame_end = (at.record.frame_start + at.frame_len) as u64;
         let most = u64::MAX;
-        self.random.pick(&[most, most - 1, most - frame_end, (most - frame_end).wrapping_add(1), 1 << 63])
+        self.random.pick(&[
+            most,
+            most - 1,
+            most - frame_end,
+            (most - frame_end).wrapping_add(1),
+            1 << 63,
+        ])
     }
 
     fn commit_len(&mut self, at: &Situation) -> u64 {
         let reserved = at.reserved as u64;
         let part = self.random.within(0, reserved);
         let part_weight = if self.filling { 0 } else { 25 };
-        let choices = [(60, reserved), (part_weight, part), (6, reserved + 1), (3, 0), (1, u64::MAX)];
+        let choices =
+            [(60, reserved), (part_weight, part), (6, reserved + 1), (3, 0), (1, u64::MAX)];
         self.random.weighed(&choices)
     }
 
@@ -319,6 +334,11 @@ impl Author<'_> {
         let index = self.random.weighed(&[(16, inside), (1, len), (1, len + 1), (1, u64::MAX)]);
         Event::Write { view, index, value: self.random.within(1, 255) as u8 }
     }
+}
+
+/// Whether the front has slots for more slices yet than the one before its last.
+fn front_open(at: &Situation) -> bool {
+    matches!(at.record.mode, Mode::Front { slots, used, .. } if used + 1 < slots.min(4))
 }
 
 /// Whether the back has come to the last slot.

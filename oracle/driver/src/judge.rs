@@ -119,7 +119,11 @@ impl Judge {
         (self.offer, self.reserved) = (offer.as_mut_ptr(), offer.len());
         let changes = changes::take();
         let (frame, end) = (self.pool.frame(), self.frame_end());
-        assert_eq!(self.offer as *const u8, frame.as_ptr_range().end, "the offer extends the frame");
+        assert_eq!(
+            self.offer as *const u8,
+            frame.as_ptr_range().end,
+            "the offer extends the frame"
+        );
         Answer { changes, ..Answer::place((end, self.reserved)) }
     }
 

@@ -14,7 +14,11 @@ pub const SLOTS: usize = 8;
 pub enum Mode {
     Back,
     /// Front: its slots and bytes, and how many of the slots are used.
-    Front { slots: usize, bytes: usize, used: usize },
+    Front {
+        slots: usize,
+        bytes: usize,
+        used: usize,
+    },
     Overflow,
 }
 

@@ -98,7 +98,8 @@ mod tests {
 
     #[test]
     fn what_is_printed_is_parsed_back() {
-        let text = "pool 17 overflow 20\nr 2\nw r 0 61\nc 2\nw f 1 0a\nt 20\nw 1 0 ff\nk 3\nd 1\n\n\
+        let text =
+            "pool 17 overflow 20\nr 2\nw r 0 61\nc 2\nw f 1 0a\nt 20\nw 1 0 ff\nk 3\nd 1\n\n\
                     pool 0 overflow 0\nr 18446744073709551615\n";
         assert_eq!(print(&parse(text).unwrap()), text);
     }

@@ -1,0 +1,38 @@
+-- The code's answers while it places a frame, read as the records of Placing.antt.
+use mathlib.Core.Path.{_≡_}
+use mathlib.Core.Bool.{Bool, true, false}
+use mathlib.Core.List.{List, _++_}
+use Prim.Native.Nat.{ℕ, _+_}
+use Rattle.buffer_pool.specs.declared.buffer_pool.BufferPool.{BufferPool}
+use Rattle.buffer_pool.specs.declared.placing.Cleared.{Cleared}
+use Rattle.buffer_pool.specs.declared.placing.ModeStep.{ModeStep}
+use Rattle.buffer_pool.specs.declared.placing.Decided.{Decided}
+use Rattle.buffer_pool.specs.Moves.{Move}
+use Rattle.buffer_pool.specs.MoveList.{listed}
+use Rattle.buffer_pool.specs.Placing.{Decision, Layer, tooLong}
+
+-- a clear that was tried: the record after it where the test holds, and the one before where not
+unfoldable pub clearedOn : Bool → BufferPool → BufferPool → Cleared
+clearedOn true q r = record { cleared = true; pool = q }
+clearedOn false q r = record { cleared = false; pool = r }
+
+-- one call of `reserve_`
+unfoldable pub layerOf : ModeStep → Layer
+layerOf m = record { again = m .again; entered = m .entered; mode = m .pool .mode; pool = m .pool; moves = listed (m .moves) }
+
+-- moves made before a layer
+unfoldable pub ahead : List Move → Layer → Layer
+ahead moves l = record { again = l .again; entered = l .entered; mode = l .mode; pool = l .pool; moves = moves ++ l .moves }
+
+-- a decision
+unfoldable pub decisionOf : Decided → Decision
+decisionOf d = record { next = d .pool; changes = d .changes; moves = listed (d .moves); heap = d .heap }
+
+-- moves and mode changes made before a decision
+abbrev pub following : List Move → ℕ → Decision → Decision
+following moves changes d = record { next = d .next; changes = changes + d .changes; moves = moves ++ d .moves; heap = d .heap }
+
+-- what the code decides: whether the overflow is too short (cause 4), and if not, the decision
+pub record Decides (c : Decided) (d : Decision) (len : ℕ) : Type 0 where
+  pub too-long : c .«too_long» ≡ tooLong d len
+  pub decision : tooLong d len ≡ false → decisionOf c ≡ d
