@@ -15,4 +15,6 @@ pub mod Unchanged
 pub mod Changes
 pub mod StepsKept
 pub mod Ranges
+pub mod DecidingLaws
+pub mod ResetLaws
 pub mod SoundKept

@@ -110,6 +110,13 @@ front-after w len k entered f r R I =
 
 -- ---- B and A, with two changes allowed
 
+-- where A gives way, its frame is empty and the tail is clearable
+pub stays-not : (w : ℕ) (r : BufferPool) (entered : Bool) → stays w entered r ≡ false → (r .cursor ≡ 0) × (clearable w r ≡ true)
+unfolding stays
+stays-not w r entered p =
+    let a = either-false (ltb 0 (r .cursor)) _ (either-false entered _ p .1) in
+    (omega (arith, ltb-false 0 (r .cursor) (a .0)), not-false (clearable w r) (either-false (eqb (r .«back_len») 0) _ (a .1) .1))
+
 module _ (w len : ℕ) (k : ℕ) (r : BufferPool) (R : Ready w r) where
   to-front : r .cursor ≡ 0 → clearable w r ≡ true → headFits w r ≡ true → After w len (again w (suc k) len false (headCleared w r))
   to-front z c h = front-after w len k false _ (headCleared w r) (head-ready w r R c h) (head-in w r R c h z)
@@ -129,12 +136,6 @@ module _ (w len : ℕ) (k : ℕ) (r : BufferPool) (R : Ready w r) where
       go false p true q false u true v = to-front (I .no-cursor) q v
       go false p true q false u false v = to-alloc w len (suc k) r R
 
-  pub stays-not : (entered : Bool) → stays w entered r ≡ false → (r .cursor ≡ 0) × (clearable w r ≡ true)
-  unfolding stays
-  stays-not entered p =
-      let a = either-false (ltb 0 (r .cursor)) _ (either-false entered _ p .1) in
-      (omega (arith, ltb-false 0 (r .cursor) (a .0)), not-false (clearable w r) (either-false (eqb (r .«back_len») 0) _ (a .1) .1))
-
   alloc-after : (entered : Bool) → InAlloc r 0 → After w len (placeOf w (suc (suc k)) entered Alloc r len)
   unfolding placeOf layer backLayer frontLayer allocLayer allocOn
   alloc-after entered I = go (stays w entered r) refl (tailFits w r len) refl (headFits w r) refl
@@ -142,8 +143,8 @@ module _ (w len : ℕ) (k : ℕ) (r : BufferPool) (R : Ready w r) where
       go : (a : Bool) → stays w entered r ≡ a → (t : Bool) → tailFits w r len ≡ t → (h : Bool) → headFits w r ≡ h
           → AfterLayer w len (suc k) (allocOn a t h w r)
       go true p t u h v = finish-alloc w len r R I
-      go false p true u h v = let z = stays-not entered p in to-back w len (suc k) r R (z .0) (z .1) u
-      go false p false u true v = let z = stays-not entered p in to-front (z .0) (z .1) v
+      go false p true u h v = let z = stays-not w r entered p in to-back w len (suc k) r R (z .0) (z .1) u
+      go false p false u true v = let z = stays-not w r entered p in to-front (z .0) (z .1) v
       go false p false u false v = finish-alloc w len r R I
 
 -- ---- The reset

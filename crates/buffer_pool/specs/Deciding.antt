@@ -1,20 +1,42 @@
 -- The code's answers while it places a frame, read as the records of Placing.antt.
 use mathlib.Core.Path.{_≡_}
 use mathlib.Core.Bool.{Bool, true, false}
-use mathlib.Core.List.{List, _++_}
-use Prim.Native.Nat.{ℕ, _+_}
+use mathlib.Core.List.{List, [], _++_}
+use Prim.Native.Nat.{ℕ, _+_, _≤_}
 use Rattle.buffer_pool.specs.declared.buffer_pool.BufferPool.{BufferPool}
+use Rattle.buffer_pool.specs.declared.buffer_pool.PoolMode.{PoolMode}
+use Rattle.buffer_pool.specs.declared.buffer_pool.PoolMode.the-variants.{Back, Front, Alloc}
 use Rattle.buffer_pool.specs.declared.placing.Cleared.{Cleared}
+use Rattle.buffer_pool.specs.declared.placing.Start.{Start}
 use Rattle.buffer_pool.specs.declared.placing.ModeStep.{ModeStep}
 use Rattle.buffer_pool.specs.declared.placing.Decided.{Decided}
 use Rattle.buffer_pool.specs.Moves.{Move}
 use Rattle.buffer_pool.specs.MoveList.{listed}
-use Rattle.buffer_pool.specs.Placing.{Decision, Layer, tooLong}
+use Rattle.buffer_pool.specs.Placing.{Decision, Layer, finish, isAlloc, tooLong}
+
+-- the used slots of a front, 0 in the other modes
+abbrev pub frontLen : PoolMode → ℕ
+frontLen Back = 0
+frontLen (Front f) = f .len
+frontLen Alloc = 0
+
+-- what the code needs of a record in order to place a frame: the slots' numbers are within w, and outside A the overflow holds no
+-- frame. Every orderly record has it, and every record on the way.
+pub record Placeable (w : ℕ) (r : BufferPool) : Type 0 where
+  pub back-within : r .«back_start» + r .«back_len» ≤ w
+  pub front-within : frontLen (r .mode) ≤ w
+  pub no-cursor : isAlloc (r .mode) ≡ false → r .cursor ≡ 0
 
 -- a clear that was tried: the record after it where the test holds, and the one before where not
 unfoldable pub clearedOn : Bool → BufferPool → BufferPool → Cleared
 clearedOn true q r = record { cleared = true; pool = q }
 clearedOn false q r = record { cleared = false; pool = r }
+
+-- where a reserve starts: in this record, after these moves, which are two at most
+pub record Starts (s : Start) (r : BufferPool) (moves : List Move) : Type 0 where
+  pub pool-is : s .pool ≡ r
+  pub moves-is : listed (s .moves) ≡ moves
+  pub few : s .moves .count ≤ 2
 
 -- one call of `reserve_`
 unfoldable pub layerOf : ModeStep → Layer
@@ -29,8 +51,12 @@ unfoldable pub decisionOf : Decided → Decision
 decisionOf d = record { next = d .pool; changes = d .changes; moves = listed (d .moves); heap = d .heap }
 
 -- moves and mode changes made before a decision
-abbrev pub following : List Move → ℕ → Decision → Decision
+unfoldable pub following : List Move → ℕ → Decision → Decision
 following moves changes d = record { next = d .next; changes = changes + d .changes; moves = moves ++ d .moves; heap = d .heap }
+
+-- the reservation made where the frame lies
+unfoldable pub finished : BufferPool → ℕ → Decision
+finished r len = finish (r .mode) r [] len
 
 -- what the code decides: whether the overflow is too short (cause 4), and if not, the decision
 pub record Decides (c : Decided) (d : Decision) (len : ℕ) : Type 0 where

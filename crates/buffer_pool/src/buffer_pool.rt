@@ -1,6 +1,7 @@
 // The pool's record, its modes and what its calls answer (buffer_pool/mod.rs of the Rust).
 ghost use mathlib.Core.Path.{_≡_};
-ghost use Rattle.buffer_pool.specs.Record.{newRecord, placed, framed};
+ghost use lib.ListN.{replicate};
+ghost use Rattle.buffer_pool.specs.Record.{newRecord, placed, framed, marked};
 use crate::slice::Handle;
 
 // The front part of the pool. Its slots are those up to `back_start`, its bytes those below `byte_capacity`, and `len` of
@@ -190,5 +191,15 @@ impl BufferPool {
             cursor: cursor,
             reserved: reserved,
         }
+    }
+
+    // The record with the slots' starts and lengths cleared.
+    pub(crate) fn without_entries(self) -> Self
+        ensures { λ r. ⌜ r ≡ marked self (self .live) (replicate 8 0) (replicate 8 0) (self .serials) (self .given) ⌝ }
+    {
+        let mut p = self;
+        p.starts = [0; BufferPool::POOL_CAPACITY];
+        p.lengths = [0; BufferPool::POOL_CAPACITY];
+        p
     }
 }

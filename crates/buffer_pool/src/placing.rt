@@ -1,15 +1,22 @@
-// What the code answers while it places a frame.
+// Placing a frame: `reserve_`, `change_mode` and `reset` (`BufferPool` in buffer_pool/mod.rs of the Rust), numbers alone. The
+// bytes are moved once the whole decision is known.
 ghost use mathlib.Core.Path.{_≡_};
-ghost use mathlib.Core.Bool.{false};
-ghost use Prim.Native.Nat.{_+_, _<_};
+ghost use mathlib.Core.Bool.{true, false};
+ghost use Prim.Native.Nat.{_+_, _*_, _≤_, _<_};
+ghost use lib.Dec.{ltb, eqb};
+ghost use Rattle.buffer_pool.specs.declared.buffer_pool.PoolMode.the-variants.{Back, Alloc};
+ghost use Rattle.buffer_pool.specs.Record.{placed};
+ghost use Rattle.buffer_pool.specs.Moves.{within};
 ghost use Rattle.buffer_pool.specs.MoveList.{listed};
 ghost use Rattle.buffer_pool.specs.Placing as spec;
-ghost use Rattle.buffer_pool.specs.Deciding.{layerOf};
+ghost use Rattle.buffer_pool.specs.Deciding.{Placeable, Starts, Decides, layerOf, ahead, finished, following};
 use crate::buffer_pool::BufferPool;
 use crate::buffer_pool::PoolMode;
 use crate::inner_memory::max;
 use crate::moves::MoveKind;
 use crate::moves::Moves;
+use crate::pool_back;
+use crate::pool_front;
 
 // A clear that was tried: was it made, and the record after it, or the one before where it was not.
 pub struct Cleared {
@@ -34,6 +41,12 @@ pub struct Decided {
     pub moves: Moves,
     pub changes: u32,
     pub heap: bool,
+}
+
+// What a reserve starts from after a reset: the record and the moves.
+pub struct Start {
+    pub pool: BufferPool,
+    pub moves: Moves,
 }
 
 // The mode keeps the frame.
@@ -73,4 +86,237 @@ pub(crate) fn go_out(p: BufferPool, moves: Moves) -> ModeStep
         pool: p.framed(PoolMode::Alloc, 0, 0, kept, raw_len, p.reserved),
         moves: moves.push(MoveKind::Out, p.raw_offset, raw_len, 0),
     }
+}
+
+// Does the overflow keep the frame? It does if it was entered just now, if the frame is not empty, or if the back has no
+// slots or no tail to clear.
+fn stays(p: BufferPool, entered: bool) -> bool
+    requires { ⌜ p .«back_start» + p .«back_len» ≤ 8 ⌝ }
+    ensures { λ r. ⌜ r ≡ spec.stays 8 entered p ⌝ }
+{
+    if entered {
+        return true;
+    }
+    if 0 < p.cursor {
+        return true;
+    }
+    if p.back_len == 0 {
+        return true;
+    }
+    !pool_back::tail_is_clearable(p)
+}
+
+// A frame that is in the overflow: it stays, or the tail or the head is cleared for it.
+fn reserve_from_system_memory(p: BufferPool, entered: bool, moves: Moves, len: u64) -> ModeStep
+    requires { ⌜ (p .mode ≡ Alloc) × (p .«back_start» + p .«back_len» ≤ 8) ⌝ }
+    ensures { λ r. ⌜ (layerOf r ≡ ahead (listed moves) (spec.allocLayer 8 entered p len)) × (r .moves .count ≡ moves .count) ⌝ }
+{
+    if stays(p, entered) {
+        return stay(p, moves);
+    }
+    let tail = pool_back::try_clear_tail_unchecked(p, len);
+    if tail.cleared {
+        return change(tail.pool, moves);
+    }
+    let head = pool_back::try_clear_head(p);
+    if head.cleared {
+        return change(head.pool, moves);
+    }
+    stay(p, moves)
+}
+
+// One call of `reserve_`, in the mode that the pool is in.
+fn mode_step(p: BufferPool, entered: bool, moves: Moves, len: u64) -> ModeStep
+    requires { ⌜ (Placeable 8 p) × (moves .count < 6) ⌝ }
+    ensures { λ r. ⌜ (layerOf r ≡ ahead (listed moves) (spec.layer 8 entered (p .mode) p len)) × (r .moves .count ≤ moves .count + 2) ⌝ }
+{
+    let mode = p.mode;
+    match mode {
+        PoolMode::Back => pool_back::reserve(p, moves, len),
+        PoolMode::Front(f) => pool_front::reserve(p, f, moves, len),
+        PoolMode::Alloc => reserve_from_system_memory(p, entered, moves, len),
+    }
+}
+
+// The reservation of `len` bytes in the overflow, which grows with zeros where it must.
+fn finish_in_overflow(p: BufferPool, moves: Moves, changes: u32, len: u64) -> Decided
+    requires { ⌜ (p .mode ≡ Alloc) × (moves .count < 7) ⌝ }
+    ensures { λ r. ⌜ Decides r (following (listed moves) changes (finished p len)) len ⌝ }
+{
+    let overflow = p.overflow;
+    let cursor = p.cursor;
+    let kept = p.kept;
+    if overflow < cursor {
+        return Decided {
+            too_long: true,
+            pool: p,
+            moves: moves,
+            changes: changes,
+            heap: true,
+        };
+    }
+    if overflow - cursor < len {
+        return Decided {
+            too_long: true,
+            pool: p,
+            moves: moves,
+            changes: changes,
+            heap: true,
+        };
+    }
+    let end = cursor + len;
+    if end <= kept {
+        return Decided {
+            too_long: false,
+            pool: p.framed(PoolMode::Alloc, p.raw_offset, p.raw_len, kept, cursor, len),
+            moves: moves,
+            changes: changes,
+            heap: true,
+        };
+    }
+    Decided {
+        too_long: false,
+        pool: p.framed(PoolMode::Alloc, p.raw_offset, p.raw_len, end, cursor, len),
+        moves: moves.push(MoveKind::Grow, kept, end, 0),
+        changes: changes,
+        heap: true,
+    }
+}
+
+// The reservation of `len` bytes in the pool.
+fn finish_in_pool(p: BufferPool, moves: Moves, changes: u32, len: u64) -> Decided
+    requires { ⌜ spec.isAlloc (p .mode) ≡ false ⌝ }
+    ensures { λ r. ⌜ Decides r (following (listed moves) changes (finished p len)) len ⌝ }
+{
+    let mode = p.mode;
+    Decided {
+        too_long: false,
+        pool: p.framed(mode, p.raw_offset, p.raw_len, p.kept, p.cursor, len),
+        moves: moves,
+        changes: changes,
+        heap: false,
+    }
+}
+
+// The reservation of `len` bytes where the frame lies.
+fn finish(p: BufferPool, moves: Moves, changes: u32, len: u64) -> Decided
+    requires { ⌜ moves .count < 7 ⌝ }
+    ensures { λ r. ⌜ Decides r (following (listed moves) changes (finished p len)) len ⌝ }
+{
+    let mode = p.mode;
+    match mode {
+        PoolMode::Back => finish_in_pool(p, moves, changes, len),
+        PoolMode::Front(_) => finish_in_pool(p, moves, changes, len),
+        PoolMode::Alloc => finish_in_overflow(p, moves, changes, len),
+    }
+}
+
+// The decision with so many mode changes still allowed: `reserve_`, which calls itself after each change.
+fn reserve_(
+    p: BufferPool,
+    entered: bool,
+    moves: Moves,
+    changes: u32,
+    left: u32,
+    len: u64,
+) -> Decided
+    requires { ⌜ (Placeable 8 p) × (moves .count + 2 * left < 7) × (changes + left ≤ 2) ⌝ }
+    ensures { λ r. ⌜ Decides r (following (listed moves) changes (spec.placeOf 8 left entered (p .mode) p len)) len ⌝ }
+{
+    if left == 0 {
+        return finish(p, moves, changes, len);
+    }
+    let step = mode_step(p, entered, moves, len);
+    if step.again {
+        return reserve_(
+            step.pool,
+            step.entered,
+            step.moves,
+            changes + 1,
+            left - 1,
+            len,
+        );
+    }
+    finish(step.pool, step.moves, changes, len)
+}
+
+// Does a reserve begin with a reset? It does where no slot is live and either the back has slots or the overflow's frame is
+// empty.
+fn resets(p: BufferPool) -> bool
+    ensures { λ r. ⌜ r ≡ spec.resets p ⌝ }
+{
+    if p.live != 0 {
+        return false;
+    }
+    if p.back_len != 0 {
+        return true;
+    }
+    let mode = p.mode;
+    match mode {
+        PoolMode::Back => false,
+        PoolMode::Front(_) => false,
+        PoolMode::Alloc => p.cursor == 0,
+    }
+}
+
+// The reset of a pool whose frame is in the pool: to its start, in the back.
+fn reset_in_pool(p: BufferPool) -> Start
+    ensures { λ r. ⌜ Starts r (placed p Back 0 0 0 0) (within (p .«raw_offset») (p .«raw_len») 0) ⌝ }
+{
+    Start {
+        pool: p.placed(PoolMode::Back, 0, 0, 0, 0),
+        moves: Moves::none().within(p.raw_offset, p.raw_len, 0),
+    }
+}
+
+// The reset of a pool whose frame is in the overflow: to the pool's start, if it is strictly shorter than the pool.
+fn reset_in_overflow(p: BufferPool) -> Start
+    requires { ⌜ p .cursor ≤ p .kept ⌝ }
+    ensures { λ r. ⌜ Starts r (spec.resetOn true (ltb (p .cursor) (p .capacity)) (eqb (p .cursor) 0) Alloc 8 p) (spec.resetMoves true (ltb (p .cursor) (p .capacity)) (eqb (p .cursor) 0) Alloc p) ⌝ }
+{
+    let cursor = p.cursor;
+    if p.capacity <= cursor {
+        return Start {
+            pool: p.placed(PoolMode::Alloc, p.back_start, p.back_len, 0, p.raw_offset),
+            moves: Moves::none(),
+        };
+    }
+    let q = p.placed(PoolMode::Back, 0, 0, 0, 0);
+    if cursor == 0 {
+        return Start {
+            pool: q.without_entries(),
+            moves: Moves::none(),
+        };
+    }
+    let rest = p.kept - cursor;
+    let moves = Moves::none().push(MoveKind::In, cursor, 0, 0);
+    Start {
+        pool: q.framed(PoolMode::Back, 0, cursor, rest, 0, p.reserved),
+        moves: moves.push(MoveKind::Down, cursor, rest, 0),
+    }
+}
+
+// The reset, by the mode that the pool is in.
+fn reset(p: BufferPool) -> Start
+    requires { ⌜ (spec.isAlloc (p .mode) ≡ true → p .cursor ≤ p .kept) ⌝ }
+    ensures { λ r. ⌜ Starts r (spec.resetOn true (ltb (p .cursor) (p .capacity)) (eqb (p .cursor) 0) (p .mode) 8 p) (spec.resetMoves true (ltb (p .cursor) (p .capacity)) (eqb (p .cursor) 0) (p .mode) p) ⌝ }
+{
+    let mode = p.mode;
+    match mode {
+        PoolMode::Back => reset_in_pool(p),
+        PoolMode::Front(_) => reset_in_pool(p),
+        PoolMode::Alloc => reset_in_overflow(p),
+    }
+}
+
+// The whole decision of a reserve of `len` bytes.
+pub(crate) fn place(p: BufferPool, len: u64) -> Decided
+    requires { ⌜ (Placeable 8 p) × (spec.isAlloc (p .mode) ≡ true → p .cursor ≤ p .kept) ⌝ }
+    ensures { λ r. ⌜ Decides r (spec.place 8 p len) len ⌝ }
+{
+    if resets(p) {
+        let start = reset(p);
+        return reserve_(start.pool, false, start.moves, 0, 2, len);
+    }
+    reserve_(p, false, Moves::none(), 0, 2, len)
 }

@@ -1,0 +1,140 @@
+-- The reset and the whole decision of a reserve, from what the code of placing.rt knows where it returns. Assumes nothing.
+use mathlib.Core.Path.{_≡_, refl, sym, ap, _∙_, subst}
+use mathlib.Core.Bool.{Bool, true, false, not, _&&_, _||_}
+use mathlib.Core.List.{List, [], _∷_, _++_}
+use Prim.Native.Nat.{ℕ, zero, suc, _+_, _-_, _≤_, _<_}
+use native.Mathlib.Nat.{zero-add}
+use native.Mathlib.Omega.{arith}
+use lib.Dec.{leb, ltb, eqb}
+use lib.ListN.{replicate}
+use borrow.Author.Tests.{lt-ltb, le-ltb, eq-eqb, ne-eqb, eqb-true, eqb-false}
+use Rattle.laws.proofs.Tests.{no-true, both-true}
+use Rattle.buffer_pool.specs.declared.buffer_pool.BufferPool.{BufferPool}
+use Rattle.buffer_pool.specs.declared.buffer_pool.PoolFront.{PoolFront}
+use Rattle.buffer_pool.specs.declared.buffer_pool.PoolMode.{PoolMode}
+use Rattle.buffer_pool.specs.declared.buffer_pool.PoolMode.the-variants.{Back, Front, Alloc}
+use Rattle.buffer_pool.specs.declared.moves.Moves.{Moves}
+use Rattle.buffer_pool.specs.declared.moves.MoveKind.the-variants as kind
+use Rattle.buffer_pool.specs.declared.placing.Start.{Start}
+use Rattle.buffer_pool.specs.declared.placing.Decided.{Decided}
+use Rattle.buffer_pool.specs.Record.{placed, framed, marked}
+use Rattle.buffer_pool.specs.Moves.{Move, In, Down, within}
+use Rattle.buffer_pool.specs.MoveList.{byteMove, moveOf, listed}
+use Rattle.buffer_pool.specs.Placing.{Decision, first, isAlloc, resets, resetOn, resetMoves, reset, placeOf, place}
+use Rattle.buffer_pool.specs.Deciding.{frontLen, Placeable, Starts, Decides, following}
+
+-- ---- Does it reset?
+
+module _ (p : BufferPool) where
+  pub resets-live : (p .live ≡ 0 → ⊥) → false ≡ resets p
+  unfolding resets
+  resets-live h = rw (ne-eqb (p .live) 0 h)
+
+  module _ (z : p .live ≡ 0) where
+    pub resets-back : (p .«back_len» ≡ 0 → ⊥) → true ≡ resets p
+    unfolding resets
+    resets-back h = rw (eq-eqb (p .live) 0 z, ne-eqb (p .«back_len») 0 h)
+
+    module _ (n : p .«back_len» ≡ 0) where
+      resets-mode : (mode : PoolMode) → p .mode ≡ mode → (isAlloc mode && eqb (p .cursor) 0) ≡ resets p
+      unfolding resets
+      resets-mode mode m = rw (eq-eqb (p .live) 0 z, eq-eqb (p .«back_len») 0 n) (ap (λ (x : PoolMode). isAlloc x && eqb (p .cursor) 0) (sym m))
+
+      pub resets-not-back : p .mode ≡ Back → false ≡ resets p
+      resets-not-back m = resets-mode Back m
+
+      pub resets-not-front : (f : PoolFront) → p .mode ≡ Front f → false ≡ resets p
+      resets-not-front f m = resets-mode (Front f) m
+
+      pub resets-empty : p .mode ≡ Alloc → eqb (p .cursor) 0 ≡ resets p
+      resets-empty m = resets-mode Alloc m
+
+-- ---- The reset
+
+pub starts-in-pool : (p q : BufferPool) (none out : Moves) → q ≡ placed p Back 0 0 0 0 → listed none ≡ [] → none .count ≡ 0
+    → listed out ≡ listed none ++ within (p .«raw_offset») (p .«raw_len») 0 → out .count ≤ none .count + 1
+    → Starts (record { pool = q; moves = out }) (placed p Back 0 0 0 0) (within (p .«raw_offset») (p .«raw_len») 0)
+starts-in-pool p q none out e n z o c = record { pool-is = e; moves-is = o ∙ ap (λ (x : List Move). x ++ within (p .«raw_offset») (p .«raw_len») 0) n; few = omega arith }
+
+module _ (p : BufferPool) (none : Moves) (n : listed none ≡ []) (z : none .count ≡ 0) where
+  pub reset-stays : p .capacity ≤ p .cursor → (q : BufferPool) → q ≡ placed p Alloc (p .«back_start») (p .«back_len») 0 (p .«raw_offset»)
+      → Starts (record { pool = q; moves = none }) (resetOn true (ltb (p .cursor) (p .capacity)) (eqb (p .cursor) 0) Alloc 8 p)
+      (resetMoves true (ltb (p .cursor) (p .capacity)) (eqb (p .cursor) 0) Alloc p)
+  unfolding resetOn resetMoves
+  reset-stays h q e = rw (le-ltb (p .cursor) (p .capacity) h) (record { pool-is = e; moves-is = n; few = omega arith })
+
+  module _ (h : p .cursor < p .capacity) (q : BufferPool) (e : q ≡ placed p Back 0 0 0 0) (r : BufferPool) where
+    pub reset-empty : p .cursor ≡ 0 → r ≡ marked q (q .live) (replicate 8 0) (replicate 8 0) (q .serials) (q .given)
+        → Starts (record { pool = r; moves = none }) (resetOn true (ltb (p .cursor) (p .capacity)) (eqb (p .cursor) 0) Alloc 8 p)
+        (resetMoves true (ltb (p .cursor) (p .capacity)) (eqb (p .cursor) 0) Alloc p)
+    unfolding resetOn resetMoves
+    reset-empty c f =
+        rw (lt-ltb (p .cursor) (p .capacity) h, eq-eqb (p .cursor) 0 c)
+        (record { pool-is = f ∙ ap (λ (x : BufferPool). marked x (x .live) (replicate 8 0) (replicate 8 0) (x .serials) (x .given)) e; moves-is = n; few = omega arith })
+
+    pub reset-brings : (p .cursor ≡ 0 → ⊥) → r ≡ framed q Back 0 (p .cursor) (p .kept - p .cursor) 0 (p .reserved)
+        → (one two : Moves) → listed one ≡ listed none ++ (moveOf (byteMove kind.In (p .cursor) 0 0) ∷ []) → one .count ≡ none .count + 1
+        → listed two ≡ listed one ++ (moveOf (byteMove kind.Down (p .cursor) (p .kept - p .cursor) 0) ∷ []) → two .count ≡ one .count + 1
+        → Starts (record { pool = r; moves = two }) (resetOn true (ltb (p .cursor) (p .capacity)) (eqb (p .cursor) 0) Alloc 8 p)
+        (resetMoves true (ltb (p .cursor) (p .capacity)) (eqb (p .cursor) 0) Alloc p)
+    unfolding resetOn resetMoves moveOf
+    reset-brings c f one two i j k l =
+        rw (lt-ltb (p .cursor) (p .capacity) h, ne-eqb (p .cursor) 0 c)
+        (record {
+          pool-is = f ∙ ap (λ (x : BufferPool). framed x Back 0 (p .cursor) (p .kept - p .cursor) 0 (p .reserved)) e;
+          moves-is = k ∙ ap (λ (x : List Move). x ++ (Down (p .cursor) (p .kept - p .cursor) ∷ [])) (i ∙ ap (λ (x : List Move). x ++ (In (p .cursor) ∷ [])) n);
+          few = omega arith;
+        })
+
+-- by the mode
+module _ (p : BufferPool) (s : Start) where
+  abbrev byMode : PoolMode → Type 0
+  byMode mode =
+      Starts s (resetOn true (ltb (p .cursor) (p .capacity)) (eqb (p .cursor) 0) mode 8 p) (resetMoves true (ltb (p .cursor) (p .capacity)) (eqb (p .cursor) 0) mode p)
+
+  pub reset-back : p .mode ≡ Back → Starts s (placed p Back 0 0 0 0) (within (p .«raw_offset») (p .«raw_len») 0) → byMode (p .mode)
+  unfolding resetOn resetMoves
+  reset-back m S = subst byMode (sym m) S
+
+  pub reset-front : (f : PoolFront) → p .mode ≡ Front f → Starts s (placed p Back 0 0 0 0) (within (p .«raw_offset») (p .«raw_len») 0) → byMode (p .mode)
+  unfolding resetOn resetMoves
+  reset-front f m S = subst byMode (sym m) S
+
+  pub reset-alloc : p .mode ≡ Alloc → byMode Alloc → byMode (p .mode)
+  reset-alloc m S = subst byMode (sym m) S
+
+pub alloc-kept : (p : BufferPool) → (isAlloc (p .mode) ≡ true → p .cursor ≤ p .kept) → p .mode ≡ Alloc → p .cursor ≤ p .kept
+alloc-kept p k m = k (rw m)
+
+-- ---- The whole decision
+
+reset-placeable-as : (p : BufferPool) → Placeable 8 p → (short empty : Bool) → eqb (p .cursor) 0 ≡ empty → (mode : PoolMode) → p .mode ≡ mode → Placeable 8 (resetOn true short empty mode 8 p)
+unfolding resetOn
+reset-placeable-as p P short empty z Back m = record { back-within = omega arith; front-within = omega arith; no-cursor = λ _. P .no-cursor (rw m) }
+reset-placeable-as p P short empty z (Front f) m = record { back-within = omega arith; front-within = omega arith; no-cursor = λ _. P .no-cursor (rw m) }
+reset-placeable-as p P true true z Alloc m = record { back-within = omega arith; front-within = omega arith; no-cursor = λ _. eqb-true (p .cursor) 0 z }
+reset-placeable-as p P true false z Alloc m = record { back-within = omega arith; front-within = omega arith; no-cursor = λ _. refl }
+reset-placeable-as p P false empty z Alloc m = record { back-within = P .back-within; front-within = omega arith; no-cursor = λ e. absurd (no-true (sym e)) }
+
+module _ (p : BufferPool) (s : Start)
+    (S : Starts s (resetOn true (ltb (p .cursor) (p .capacity)) (eqb (p .cursor) 0) (p .mode) 8 p) (resetMoves true (ltb (p .cursor) (p .capacity)) (eqb (p .cursor) 0) (p .mode) p)) where
+  pub reset-placeable : Placeable 8 p → Placeable 8 (s .pool)
+  reset-placeable P = subst (Placeable 8) (sym (S .pool-is)) (reset-placeable-as p P _ (eqb (p .cursor) 0) refl (p .mode) refl)
+
+  -- the decision of the record after the reset, with the reset's moves before it, is the whole
+  whole : (len : ℕ) (b : Bool) → b ≡ resets p → b ≡ true → following (listed (s .moves)) 0 (placeOf 8 2 false (s .pool .mode) (s .pool) len) ≡ place 8 p len
+  unfolding place reset following
+  whole len b e t = rw (← e, t, S .moves-is, S .pool-is, zero-add)
+
+  pub decides-reset : (len : ℕ) (c : Decided) (b : Bool) → b ≡ resets p → b ≡ true
+      → Decides c (following (listed (s .moves)) 0 (placeOf 8 2 false (s .pool .mode) (s .pool) len)) len → Decides c (place 8 p len) len
+  decides-reset len c b e t D = subst (λ (d : Decision). Decides c d len) (whole len b e t) D
+
+alone : (p : BufferPool) (len : ℕ) (b : Bool) (none : List Move) → b ≡ resets p → b ≡ false → none ≡ []
+    → following none 0 (placeOf 8 2 false (p .mode) p len) ≡ place 8 p len
+unfolding place reset following resetOn resetMoves
+alone p len b none e t n = rw (← e, t, n, zero-add)
+
+pub decides-without-reset : (p : BufferPool) (len : ℕ) (c : Decided) (b : Bool) (none : Moves) → b ≡ resets p → b ≡ false → listed none ≡ []
+    → Decides c (following (listed none) 0 (placeOf 8 2 false (p .mode) p len)) len → Decides c (place 8 p len) len
+decides-without-reset p len c b none e t n D = subst (λ (d : Decision). Decides c d len) (alone p len b (listed none) e t n) D
