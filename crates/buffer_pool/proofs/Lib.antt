@@ -17,4 +17,12 @@ pub mod StepsKept
 pub mod Ranges
 pub mod DecidingLaws
 pub mod ResetLaws
+pub mod SlotPassLaws
+pub mod SoundTestLaws
 pub mod SoundKept
+pub mod HeapMoves
+pub mod RustFunctions
+pub mod RustLayers
+pub mod RustAgrees
+pub mod RustCalls
+pub mod AsTheRust

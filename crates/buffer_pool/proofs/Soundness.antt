@@ -18,7 +18,7 @@ use Rattle.buffer_pool.specs.declared.buffer_pool.PoolFront.{PoolFront}
 use Rattle.buffer_pool.specs.declared.buffer_pool.PoolMode.{PoolMode}
 use Rattle.buffer_pool.specs.declared.buffer_pool.PoolMode.the-variants.{Back, Front, Alloc}
 use Rattle.buffer_pool.specs.Record.{byteLimit}
-use Rattle.buffer_pool.specs.Soundness.{shaped, limited, counted, rising, framedWithin, backSound, besides, frontSound, allocSound, modeSound, orderly, sound}
+use Rattle.buffer_pool.specs.Soundness.{shaped, limited, counted, rising, framedWithin, backNumbers, backSound, besides, frontNumbers, frontSound, allocSound, modeSound, orderly, sound}
 use Rattle.buffer_pool.specs.Sound.{Held, InBack, own, above, InFront, InAlloc, InMode, Orderly, Sound}
 use Rattle.buffer_pool.proofs.Order.{startOf, endOf, Beside}
 
@@ -154,26 +154,27 @@ module _ (w : ℕ) (r : BufferPool) where
   before p = leb (endOf r p) (r .«raw_offset»)
 
   pub back-use : backSound w r ≡ true → InBack w r (r .reserved)
-  unfolding backSound
+  unfolding backSound backNumbers
   back-use e =
-      let a = eqb-and (r .used) (r .«back_start» + r .«back_len») e in
+      let c = both-true (backNumbers w r) _ e in
+      let a = eqb-and (r .used) (r .«back_start» + r .«back_len») (c .0) in
       let b = eqb-and (r .cursor) 0 (a .1) in
-      let c = both-true (lives w (r .live) before) _ (b .1) in
-      let d = framed-use (r .capacity) (r .«back_start» + r .«back_len») w (c .1) in
+      let d = framed-use (r .capacity) (r .«back_start» + r .«back_len») w (b .1) in
       record {
         used-is = a .0;
         no-cursor = b .0;
-        past = λ p t. leb-true (endOf r p) (r .«raw_offset») (lives-use w (r .live) before (c .0) p t);
+        past = λ p t. leb-true (endOf r p) (r .«raw_offset») (lives-use w (r .live) before (c .1) p t);
         fits = d .0;
         slot = d .1;
       }
 
   pub back-make : InBack w r (r .reserved) → backSound w r ≡ true
-  unfolding backSound
+  unfolding backSound backNumbers
   back-make I =
-      both (eq-eqb _ _ (I .used-is)) (both (eq-eqb _ _ (I .no-cursor))
-      (both (lives-make w (r .live) before (λ p t. le-leb _ _ (I .past p t)))
+      both
+      (both (eq-eqb _ _ (I .used-is)) (both (eq-eqb _ _ (I .no-cursor))
       (framed-make (r .capacity) (r .«back_start» + r .«back_len») w (I .fits) (I .slot))))
+      (lives-make w (r .live) before (λ p t. le-leb _ _ (I .past p t)))
 
   module _ (f : PoolFront) where
     pub besides-use : (p : ℕ) → besides r f p ≡ true → Beside r f p
@@ -191,17 +192,17 @@ module _ (w : ℕ) (r : BufferPool) where
     besides-make p (above a b) = or-right (leb p (f .len) && before p) _ (both (lt-ltb _ _ a) (le-leb _ _ b))
 
     pub front-use : frontSound w r f ≡ true → InFront w r f (r .reserved)
-    unfolding frontSound
+    unfolding frontSound frontNumbers
     front-use e =
-        let full = eqb-and (r .«back_start» + r .«back_len») w e in
+        let sides = both-true (frontNumbers w r f) _ e in
+        let full = eqb-and (r .«back_start» + r .«back_len») w (sides .0) in
         let one = leb-and 1 (f .«back_start») (full .1) in
         let front-within = leb-and (f .«back_start») (r .«back_start») (one .1) in
         let len-within = leb-and (f .len) (f .«back_start») (front-within .1) in
         let used-is = eqb-and (r .used) (f .len) (len-within .1) in
         let no-cursor = eqb-and (r .cursor) 0 (used-is .1) in
         let bytes-within = leb-and (f .«byte_capacity») (r .capacity) (no-cursor .1) in
-        let sides = both-true (lives w (r .live) (besides r f)) _ (bytes-within .1) in
-        let framed = framed-use (f .«byte_capacity») (f .len) (f .«back_start») (sides .1) in
+        let framed = framed-use (f .«byte_capacity») (f .len) (f .«back_start») (bytes-within .1) in
         record {
           full = full .0;
           one = one .0;
@@ -210,18 +211,19 @@ module _ (w : ℕ) (r : BufferPool) where
           used-is = used-is .0;
           no-cursor = no-cursor .0;
           bytes-within = bytes-within .0;
-          side = λ p t. besides-use p (lives-use w (r .live) (besides r f) (sides .0) p t);
+          side = λ p t. besides-use p (lives-use w (r .live) (besides r f) (sides .1) p t);
           fits = framed .0;
           slot = framed .1;
         }
 
     pub front-make : InFront w r f (r .reserved) → frontSound w r f ≡ true
-    unfolding frontSound
+    unfolding frontSound frontNumbers
     front-make I =
-        both (eq-eqb _ _ (I .full)) (both (le-leb _ _ (I .one)) (both (le-leb _ _ (I .front-within))
+        both
+        (both (eq-eqb _ _ (I .full)) (both (le-leb _ _ (I .one)) (both (le-leb _ _ (I .front-within))
         (both (le-leb _ _ (I .len-within)) (both (eq-eqb _ _ (I .used-is)) (both (eq-eqb _ _ (I .no-cursor))
-        (both (le-leb _ _ (I .bytes-within)) (both (lives-make w (r .live) (besides r f) (λ p t. besides-make p (I .side p t)))
-        (framed-make (f .«byte_capacity») (f .len) (f .«back_start») (I .fits) (I .slot)))))))))
+        (both (le-leb _ _ (I .bytes-within)) (framed-make (f .«byte_capacity») (f .len) (f .«back_start») (I .fits) (I .slot)))))))))
+        (lives-make w (r .live) (besides r f) (λ p t. besides-make p (I .side p t)))
 
   pub alloc-use : allocSound r ≡ true → InAlloc r (r .reserved)
   unfolding allocSound

@@ -5,8 +5,11 @@ pub mod Placing
 pub mod Deciding
 pub mod Soundness
 pub mod Sound
+pub mod SlotPass
 pub mod Steps
 pub mod Calls
 pub mod Rust
+pub mod AsRust
+pub mod Together
 pub mod Cases
 pub mod Computing

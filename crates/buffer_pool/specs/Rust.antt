@@ -528,10 +528,10 @@ rust-take-on Alloc w r =
 unfoldable pub rust-take : ℕ → RustPool → Run Took
 rust-take w r = rust-take-on (r .mode) w r
 
--- the drop of a pooled slice (slice.rs): `SharedState::release`
+-- the drop of a pooled slice (slice.rs): `SharedState::release`, whose `debug_assert_ne!` asks for a live slot
 unfoldable pub rust-release : ℕ → RustPool → ℕ → Run RustPool
 rust-release w r position =
-    need (leb 1 position && leb position w)
+    need (leb 1 position && (leb position w && liveAt w (r .inner-memory .live) position))
     (done
     (pool (r .pool-back) (r .mode)
     (slotted (r .inner-memory) (released w (r .inner-memory .live) position) (r .inner-memory .starts) (r .inner-memory .lengths) (r .inner-memory .len))

@@ -45,12 +45,21 @@ unfoldable pub framedWithin : BufferPool → ℕ → Bool → Bool
 framedWithin r bytes slotLeft =
     leb (r .«raw_offset» + r .«raw_len» + r .reserved) bytes && (slotLeft || eqb (r .«raw_len» + r .reserved) 0)
 
--- B: s + n slots are used, nothing stands in the overflow's frame, and the frame lies after every live slot
-unfoldable pub backSound : ℕ → BufferPool → Bool
-backSound w r =
+-- B: s + n slots are used, nothing stands in the overflow's frame; and the frame lies after every live slot
+unfoldable pub backNumbers : ℕ → BufferPool → Bool
+backNumbers w r =
     eqb (r .used) (r .«back_start» + r .«back_len») && (eqb (r .cursor) 0
-    && (lives w (r .live) (λ p. leb (after (r .starts) (r .lengths) p) (r .«raw_offset»))
-    && framedWithin r (r .capacity) (ltb (r .«back_start» + r .«back_len») w)))
+    && framedWithin r (r .capacity) (ltb (r .«back_start» + r .«back_len») w))
+
+unfoldable pub backSound : ℕ → BufferPool → Bool
+backSound w r = backNumbers w r && lives w (r .live) (λ p. leb (after (r .starts) (r .lengths) p) (r .«raw_offset»))
+
+-- F: the back is full, F's slots are some of those before it, and frame and reservation lie within F's bytes
+unfoldable pub frontNumbers : ℕ → BufferPool → PoolFront → Bool
+frontNumbers w r f =
+    eqb (r .«back_start» + r .«back_len») w && (leb 1 (f .«back_start») && (leb (f .«back_start») (r .«back_start»)
+    && (leb (f .len) (f .«back_start») && (eqb (r .used) (f .len) && (eqb (r .cursor) 0 && (leb (f .«byte_capacity») (r .capacity)
+    && framedWithin r (f .«byte_capacity») (ltb (f .len) (f .«back_start»))))))))
 
 -- F: a live slot is one of the used ones, before the frame, or above all of F's slots, and after F's bytes
 unfoldable pub besides : BufferPool → PoolFront → ℕ → Bool
@@ -58,12 +67,8 @@ besides r f p =
     (leb p (f .len) && leb (after (r .starts) (r .lengths) p) (r .«raw_offset»))
     || (ltb (f .«back_start») p && leb (f .«byte_capacity») (startAt (r .starts) p))
 
--- F: the back is full, F's slots are some of those before it, and frame and reservation lie within F's bytes
 unfoldable pub frontSound : ℕ → BufferPool → PoolFront → Bool
-frontSound w r f =
-    eqb (r .«back_start» + r .«back_len») w && (leb 1 (f .«back_start») && (leb (f .«back_start») (r .«back_start»)
-    && (leb (f .len) (f .«back_start») && (eqb (r .used) (f .len) && (eqb (r .cursor) 0 && (leb (f .«byte_capacity») (r .capacity)
-    && (lives w (r .live) (besides r f) && framedWithin r (f .«byte_capacity») (ltb (f .len) (f .«back_start»)))))))))
+frontSound w r f = frontNumbers w r f && lives w (r .live) (besides r f)
 
 -- A: no frame in the pool; frame and reservation lie in the kept bytes of the overflow
 unfoldable pub allocSound : BufferPool → Bool

@@ -8,3 +8,4 @@ mod placing;
 mod pool_back;
 mod pool_front;
 pub mod slice;
+pub mod sound;

@@ -1,0 +1,43 @@
+-- One slot and the loop over the slots, from what the code of sound.rt knows where it returns. Assumes nothing.
+use mathlib.Core.Path.{_≡_, refl, sym, ap, _∙_}
+use mathlib.Core.Bool.{Bool, true, false, not}
+use mathlib.Core.List.{List}
+use Prim.Native.Nat.{ℕ, zero, suc, _+_, _-_, _≤_, _<_}
+use native.Mathlib.Numerals.{add-one}
+use native.Mathlib.Omega.{arith}
+use lib.ListN.{getD}
+use Rattle.laws.specs.Live.{liveAt}
+use Rattle.laws.proofs.Tests.{not-true, not-false}
+use Rattle.buffer_pool.specs.declared.sound.Bounds.{Bounds}
+use Rattle.buffer_pool.specs.declared.sound.Passed.{Passed}
+use Rattle.buffer_pool.specs.SlotPass.{passed, slotSound, slotPass, passes}
+
+module _ (starts lengths : List ℕ) (live : ℕ) (b : Bounds) where
+  module _ (i end : ℕ) (l : Bool) (e : l ≡ liveAt 8 live (i + 1)) where
+    pub passed-free : not l ≡ true → record { sound = true; end = end } ≡ slotPass starts lengths live b i end
+    unfolding slotPass
+    passed-free h = rw (← add-one i, ← e, not-true l h)
+
+    pub passed-live : not l ≡ false → (start len : ℕ) → start ≡ getD starts i 0 → len ≡ getD lengths i 0
+        → (t : Bool) → t ≡ slotSound b (i + 1) start (start + len) end → record { sound = t; end = start + len } ≡ slotPass starts lengths live b i end
+    unfolding slotPass
+    passed-live h start len s n t f = rw (← add-one i, ← e, not-false l h, f, s, n)
+
+  -- the loop: what is left to pass decides
+  module _ (i end : ℕ) (h : i < 8) (a : passes starts lengths live b 8 0 0 ≡ passes starts lengths live b (8 - i) i end) (s : Passed)
+      (e : s ≡ slotPass starts lengths live b i end) where
+    turn : passes starts lengths live b 8 0 0 ≡ passes starts lengths live b (suc (8 - (i + 1))) i end
+    turn = a ∙ ap (λ (n : ℕ). passes starts lengths live b n i end) (omega arith)
+
+    pub pass-fails : not (s .sound) ≡ true → false ≡ passes starts lengths live b 8 0 0
+    unfolding passes
+    pass-fails t = sym (turn ∙ rw (← e, not-true (s .sound) t))
+
+    pub passes-more : not (s .sound) ≡ false → passes starts lengths live b 8 0 0 ≡ passes starts lengths live b (8 - (i + 1)) (i + 1) (s .end)
+    unfolding passes
+    passes-more t = turn ∙ rw (← e, not-false (s .sound) t, add-one i)
+
+  pub passes-all : (i end : ℕ) → i ≤ 8 → 8 ≤ i → passes starts lengths live b 8 0 0 ≡ passes starts lengths live b (8 - i) i end → true ≡ passes starts lengths live b 8 0 0
+  unfolding passes
+  passes-all i end h k a =
+      let z : 8 - i ≡ 0 = omega arith in sym (a ∙ ap (λ (n : ℕ). passes starts lengths live b n i end) z)
