@@ -19,6 +19,7 @@ pub mod DecidingLaws
 pub mod ResetLaws
 pub mod SlotPassLaws
 pub mod SoundTestLaws
+pub mod StepLaws
 pub mod SoundKept
 pub mod HeapMoves
 pub mod RustFunctions

@@ -110,17 +110,23 @@ handedOut w r mode n =
 abbrev pub longer : PoolFront → ℕ → PoolFront
 longer f len = record { «back_start» = f .«back_start»; «byte_capacity» = f .«byte_capacity»; len = len }
 
+-- a non-empty frame of the pool: are all serials given?
+abbrev pub pooled : Bool → ℕ → BufferPool → PoolMode → ℕ → Called
+pooled true w r mode n = refused r 8
+pooled false w r mode n = called (handedOut w r mode n) (Taken (nextHandle r))
+
+-- a non-empty frame of the overflow: is it longer than the destination?
+abbrev pub copiedOutOn : Bool → BufferPool → Called
+copiedOutOn true r = refused r 6
+copiedOutOn false r = called (framed r Alloc (r .«raw_offset») (r .«raw_len») (r .kept - r .cursor) 0 0) (Copied (r .cursor))
+
 -- is the frame empty? longer than the destination? are all serials given? "An empty frame gives length 0, no slot, no copy,
 -- in every mode."
 unfoldable pub takeOn : Bool → Bool → Bool → PoolMode → ℕ → BufferPool → Called
 takeOn true long spent mode w r = called (resized mode r (frameOf mode r .length)) (Copied 0)
-takeOn false long true Back w r = refused r 8
-takeOn false long false Back w r = called (handedOut w r Back (suc (r .used) - r .«back_start»)) (Taken (nextHandle r))
-takeOn false long true (Front f) w r = refused r 8
-takeOn false long false (Front f) w r = called (handedOut w r (Front (longer f (suc (r .used)))) (r .«back_len»)) (Taken (nextHandle r))
-takeOn false true spent Alloc w r = refused r 6
-takeOn false false spent Alloc w r =
-    called (framed r Alloc (r .«raw_offset») (r .«raw_len») (r .kept - r .cursor) 0 0) (Copied (r .cursor))
+takeOn false long spent Back w r = pooled spent w r Back (suc (r .used) - r .«back_start»)
+takeOn false long spent (Front f) w r = pooled spent w r (Front (longer f (suc (r .used)))) (r .«back_len»)
+takeOn false long spent Alloc w r = copiedOutOn long r
 
 -- a take with a destination of this length
 unfoldable pub takeStep : ℕ → BufferPool → ℕ → Called

@@ -9,3 +9,4 @@ mod pool_back;
 mod pool_front;
 pub mod slice;
 pub mod sound;
+mod steps;

@@ -1,0 +1,255 @@
+-- The record steps, from what the code of steps.rt knows where it returns. Assumes nothing.
+use mathlib.Core.Path.{_≡_, refl, sym, ap, _∙_, subst}
+use mathlib.Core.Bool.{Bool, true, false, not, _&&_}
+use mathlib.Core.List.{List}
+use Prim.Native.Nat.{ℕ, zero, suc, _+_, _-_, _≤_, _<_, min}
+use native.Mathlib.Numerals.{add-one}
+use native.Mathlib.Omega.{arith}
+use mir.Val.{Fits}
+use mir.Syntax.{w64}
+use lib.Dec.{leb, ltb, eqb}
+use lib.ListN.{getD, set}
+use borrow.Author.Tests.{lt-ltb, le-ltb, lt-leb, le-leb, eq-eqb, ne-eqb, leb-true}
+use Rattle.laws.specs.Live.{liveAt, claimed, released}
+use Rattle.laws.proofs.Tests.{both-true, not-true, not-false}
+use Rattle.buffer_pool.specs.declared.slice.Handle.{Handle}
+use Rattle.buffer_pool.specs.declared.buffer_pool.BufferPool.{BufferPool}
+use Rattle.buffer_pool.specs.declared.buffer_pool.PoolFront.{PoolFront}
+use Rattle.buffer_pool.specs.declared.buffer_pool.PoolMode.{PoolMode}
+use Rattle.buffer_pool.specs.declared.buffer_pool.PoolMode.the-variants.{Back, Front, Alloc}
+use Rattle.buffer_pool.specs.declared.buffer_pool.Memory.the-variants.{Pool, Overflow}
+use Rattle.buffer_pool.specs.declared.buffer_pool.Place.{Place}
+use Rattle.buffer_pool.specs.declared.buffer_pool.Answer.the-variants.{Done, Framed, Taken, Copied, Refused}
+use Rattle.buffer_pool.specs.declared.buffer_pool.Called.{Called}
+use Rattle.buffer_pool.specs.Record.{startAt, front, framed, marked}
+use Rattle.buffer_pool.specs.Sound.{Orderly, InBack, InFront, InAlloc, InMode}
+use Rattle.buffer_pool.specs.Steps.{called, refused, at, frameOf, resized, reframed, commitStep, truncateStep, handedOut, pooled, copiedOutOn, takeOn, takeStep, names, releaseStep}
+
+-- ---- The frame, by the mode
+
+module _ (p : BufferPool) where
+  pub frame-back : p .mode ≡ Back → at Pool (p .«raw_offset») (p .«raw_len») ≡ frameOf (p .mode) p
+  frame-back m = ap (λ (x : PoolMode). frameOf x p) (sym m)
+
+  pub frame-front : (f : PoolFront) → p .mode ≡ Front f → at Pool (p .«raw_offset») (p .«raw_len») ≡ frameOf (p .mode) p
+  frame-front f m = ap (λ (x : PoolMode). frameOf x p) (sym m)
+
+  pub frame-alloc : p .mode ≡ Alloc → at Overflow 0 (p .cursor) ≡ frameOf (p .mode) p
+  frame-alloc m = ap (λ (x : PoolMode). frameOf x p) (sym m)
+
+  module _ (len : ℕ) (q : BufferPool) where
+    pub resized-back : p .mode ≡ Back → q ≡ framed p Back (p .«raw_offset») len (p .kept) (p .cursor) 0 → q ≡ resized (p .mode) p len
+    resized-back m e = e ∙ ap (λ (x : PoolMode). resized x p len) (sym m)
+
+    pub resized-front : (f : PoolFront) → p .mode ≡ Front f → q ≡ framed p (Front f) (p .«raw_offset») len (p .kept) (p .cursor) 0 → q ≡ resized (p .mode) p len
+    resized-front f m e = e ∙ ap (λ (x : PoolMode). resized x p len) (sym m)
+
+    pub resized-alloc : p .mode ≡ Alloc → q ≡ framed p Alloc (p .«raw_offset») (p .«raw_len») (p .kept) len 0 → q ≡ resized (p .mode) p len
+    resized-alloc m e = e ∙ ap (λ (x : PoolMode). resized x p len) (sym m)
+
+pub reframed-as : (p : BufferPool) (f : Place) → f ≡ frameOf (p .mode) p → record { pool = p; answer = Framed f } ≡ reframed p
+reframed-as p f e = ap (λ (x : Place). called p (Framed x)) e
+
+-- ---- Commit
+
+-- frame and reservation end within the pool or the kept bytes, so their sum is a 64-bit number
+frame-sum : (p : BufferPool) (mode : PoolMode) → InMode 8 mode p (p .reserved) → (bound : ℕ) → p .capacity ≤ bound → p .kept ≤ bound
+    → frameOf mode p .length + p .reserved ≤ bound
+frame-sum p Back I bound c k = omega (arith, I .fits)
+frame-sum p (Front f) I bound c k = omega (arith, I .fits, I .bytes-within)
+frame-sum p Alloc I bound c k = omega (arith, I .fits)
+
+pub commit-fits : (p : BufferPool) (n : ℕ) → n ≤ p .reserved → (f : Place) → f ≡ frameOf (p .mode) p → Orderly 8 p → Fits w64 (p .capacity) → Fits w64 (p .kept) → Fits w64 (f .length + n)
+commit-fits p n h f i O a b =
+    record { fits = rw i (omega (arith, a .fits, b .fits, frame-sum p (p .mode) (O .in-mode) 18446744073709551615 (omega (arith, a .fits)) (omega (arith, b .fits)))) }
+
+module _ (p : BufferPool) (n : ℕ) (c : Called) where
+  pub commit-refused : p .reserved < n → c ≡ refused p 5 → c ≡ commitStep p n
+  unfolding commitStep
+  commit-refused h e = e ∙ rw (lt-ltb (p .reserved) n h)
+
+  module _ (h : n ≤ p .reserved) (f : Place) (i : f ≡ frameOf (p .mode) p) where
+    pub commit-done : (q : BufferPool) → q ≡ resized (p .mode) p (f .length + n) → c ≡ reframed q → c ≡ commitStep p n
+    unfolding commitStep
+    commit-done q e g = g ∙ rw (le-ltb (p .reserved) n h, e, i)
+
+-- ---- Truncate
+
+module _ (p : BufferPool) (n : ℕ) (c : Called) (f : Place) (i : f ≡ frameOf (p .mode) p) (q : BufferPool) where
+  pub truncate-cuts : n < f .length → q ≡ resized (p .mode) p n → c ≡ reframed q → c ≡ truncateStep p n
+  unfolding truncateStep
+  truncate-cuts h e g = let z : min (f .length) n ≡ n = omega arith in g ∙ rw (e, ← i, z)
+
+  pub truncate-keeps : f .length ≤ n → q ≡ resized (p .mode) p (f .length) → c ≡ reframed q → c ≡ truncateStep p n
+  unfolding truncateStep
+  truncate-keeps h e g = let z : min (f .length) n ≡ f .length = omega arith in g ∙ rw (e, ← i, z)
+
+-- ---- Take
+
+pub handed-out : (p : BufferPool) (mode : PoolMode) (n live : ℕ) → live ≡ claimed 8 (p .live) (p .used + 1)
+    → record {
+      capacity = p .capacity;
+      overflow = p .overflow;
+      live = live;
+      starts = set (p .starts) (p .used) (p .«raw_offset»);
+      lengths = set (p .lengths) (p .used) (p .«raw_len»);
+      serials = set (p .serials) (p .used) (p .given + 1);
+      given = p .given + 1;
+      «back_start» = p .«back_start»;
+      «back_len» = n;
+      used = p .used + 1;
+      «raw_offset» = p .«raw_offset» + p .«raw_len»;
+      «raw_len» = 0;
+      mode = mode;
+      kept = p .kept;
+      cursor = p .cursor;
+      reserved = 0;
+    } ≡ handedOut 8 p mode n
+handed-out p mode n live e = rw (e, add-one (p .used), add-one (p .given))
+
+module _ (p : BufferPool) (mode : PoolMode) (n : ℕ) (c : Called) where
+  pub serials-spent : 4294967295 ≤ p .given → c ≡ refused p 8 → c ≡ pooled (leb 4294967295 (p .given)) 8 p mode n
+  serials-spent h e = e ∙ rw (le-leb 4294967295 (p .given) h)
+
+pub taken-pooled : (p : BufferPool) (mode : PoolMode) (n : ℕ) → p .given < 4294967295 → (q : BufferPool) → q ≡ handedOut 8 p mode n
+    → record { pool = q; answer = Taken (record { slot = p .used + 1; start = p .«raw_offset»; length = p .«raw_len»; serial = p .given + 1 }) }
+    ≡ pooled (leb 4294967295 (p .given)) 8 p mode n
+taken-pooled p mode n h q e = rw (lt-leb 4294967295 (p .given) h, e, add-one (p .used), add-one (p .given))
+
+module _ (p : BufferPool) (destination : ℕ) where
+  pub destination-short : destination < p .cursor → (c : Called) → c ≡ refused p 6 → c ≡ copiedOutOn (ltb destination (p .cursor)) p
+  destination-short h c e = e ∙ rw (lt-ltb destination (p .cursor) h)
+
+  pub taken-copied : p .cursor ≤ destination → (q : BufferPool) → q ≡ framed p Alloc (p .«raw_offset») (p .«raw_len») (p .kept - p .cursor) 0 0
+      → record { pool = q; answer = Copied (p .cursor) } ≡ copiedOutOn (ltb destination (p .cursor)) p
+  taken-copied h q e = rw (le-ltb destination (p .cursor) h, e)
+
+-- what an orderly record knows in each mode
+module _ (p : BufferPool) (O : Orderly 8 p) where
+  in-back : p .mode ≡ Back → InBack 8 p (p .reserved)
+  in-back m = subst (λ (x : PoolMode). InMode 8 x p (p .reserved)) m (O .in-mode)
+
+  in-front : (g : PoolFront) → p .mode ≡ Front g → InFront 8 p g (p .reserved)
+  in-front g m = subst (λ (x : PoolMode). InMode 8 x p (p .reserved)) m (O .in-mode)
+
+  pub alloc-kept : p .mode ≡ Alloc → p .cursor ≤ p .kept
+  alloc-kept m = let I : InAlloc p (p .reserved) = subst (λ (x : PoolMode). InMode 8 x p (p .reserved)) m (O .in-mode) in omega (arith, I .fits)
+
+  pub back-used : p .mode ≡ Back → p .«back_start» ≤ p .used + 1
+  back-used m = omega (arith, in-back m .used-is)
+
+  pub back-bytes : p .mode ≡ Back → p .capacity ≤ 4294967295 → p .«raw_offset» + p .«raw_len» ≤ 4294967295
+  back-bytes m c = omega (arith, in-back m .fits)
+
+  pub front-bytes : (g : PoolFront) → p .mode ≡ Front g → p .capacity ≤ 4294967295 → p .«raw_offset» + p .«raw_len» ≤ 4294967295
+  front-bytes g m c = omega (arith, in-front g m .fits, in-front g m .bytes-within)
+
+  -- a frame with bytes has a slot left
+  module _ (f : Place) (i : f ≡ frameOf (p .mode) p) (n : f .length ≡ 0 → ⊥) where
+    length-as : (mode : PoolMode) → p .mode ≡ mode → f .length ≡ frameOf mode p .length
+    length-as mode m = ap (λ (x : Place). x .length) i ∙ ap (λ (x : PoolMode). frameOf x p .length) m
+
+    pub back-slot : p .mode ≡ Back → p .used < 8
+    back-slot m = omega (arith, in-back m .used-is, in-back m .slot (omega (arith, length-as Back m, n)))
+
+    pub front-slot : (g : PoolFront) → p .mode ≡ Front g → p .used < 8
+    front-slot g m =
+        omega (arith, in-front g m .used-is, in-front g m .slot (omega (arith, length-as (Front g) m, n)), in-front g m .front-within, O .ready .start-below)
+
+-- a count of slots plus one is a 64-bit number
+pub slot-fits : (used : ℕ) → used < 8 → Fits w64 (used + 1)
+slot-fits used h = record { fits = omega arith }
+
+empty-as : (p : BufferPool) (long spent : Bool) (mode : PoolMode) → takeOn true long spent mode 8 p ≡ called (resized mode p (frameOf mode p .length)) (Copied 0)
+unfolding takeOn
+empty-as p long spent Back = refl
+empty-as p long spent (Front f) = refl
+empty-as p long spent Alloc = refl
+
+module _ (p : BufferPool) (destination : ℕ) (f : Place) (i : f ≡ frameOf (p .mode) p) where
+  pub taken-empty : f .length ≡ 0 → (q : BufferPool) → q ≡ resized (p .mode) p (f .length) → record { pool = q; answer = Copied 0 } ≡ takeStep 8 p destination
+  unfolding takeStep
+  taken-empty z q e =
+      let l : f .length ≡ frameOf (p .mode) p .length = ap (λ (x : Place). x .length) i in
+      ap (λ (x : BufferPool). called x (Copied 0)) (e ∙ ap (resized (p .mode) p) l)
+      ∙ sym (empty-as p (ltb destination (frameOf (p .mode) p .length)) (leb 4294967295 (p .given)) (p .mode))
+      ∙ ap (λ (b : Bool). takeOn b (ltb destination (frameOf (p .mode) p .length)) (leb 4294967295 (p .given)) (p .mode) 8 p) (sym (eq-eqb (frameOf (p .mode) p .length) 0 (sym l ∙ z)))
+
+  module _ (n : f .length ≡ 0 → ⊥) (c : Called) where
+    some-as : (mode : PoolMode) → p .mode ≡ mode
+        → takeOn false (ltb destination (frameOf mode p .length)) (leb 4294967295 (p .given)) mode 8 p ≡ takeStep 8 p destination
+    unfolding takeStep
+    some-as mode m =
+        ap (λ (x : PoolMode). takeOn false (ltb destination (frameOf x p .length)) (leb 4294967295 (p .given)) x 8 p) (sym m)
+        ∙ ap (λ (b : Bool). takeOn b (ltb destination (frameOf (p .mode) p .length)) (leb 4294967295 (p .given)) (p .mode) 8 p)
+        (sym (ne-eqb (frameOf (p .mode) p .length) 0 (λ z. n (ap (λ (x : Place). x .length) i ∙ z))))
+
+    pub taken-back : p .mode ≡ Back → c ≡ pooled (leb 4294967295 (p .given)) 8 p Back (p .used + 1 - p .«back_start») → c ≡ takeStep 8 p destination
+    unfolding takeOn
+    taken-back m e =
+        e ∙ ap (λ (k : ℕ). pooled (leb 4294967295 (p .given)) 8 p Back (k - p .«back_start»)) (add-one (p .used)) ∙ some-as Back m
+
+    pub taken-front : (g : PoolFront) → p .mode ≡ Front g
+        → c ≡ pooled (leb 4294967295 (p .given)) 8 p (front (g .«back_start») (g .«byte_capacity») (p .used + 1)) (p .«back_len») → c ≡ takeStep 8 p destination
+    unfolding takeOn
+    taken-front g m e =
+        e ∙ ap (λ (k : ℕ). pooled (leb 4294967295 (p .given)) 8 p (front (g .«back_start») (g .«byte_capacity») k) (p .«back_len»)) (add-one (p .used))
+        ∙ some-as (Front g) m
+
+    pub taken-alloc : p .mode ≡ Alloc → c ≡ copiedOutOn (ltb destination (p .cursor)) p → c ≡ takeStep 8 p destination
+    unfolding takeOn
+    taken-alloc m e = e ∙ some-as Alloc m
+
+-- ---- Release
+
+module _ (p : BufferPool) (h : Handle) where
+  pub slot-zero : h .slot < 1 → false ≡ names 8 p h
+  unfolding names
+  slot-zero l = rw (lt-leb 1 (h .slot) l)
+
+  module _ (l : 1 ≤ h .slot) where
+    pub slot-past : 8 < h .slot → false ≡ names 8 p h
+    unfolding names
+    slot-past k = rw (le-leb 1 (h .slot) l, lt-leb (h .slot) 8 k)
+
+    module _ (k : h .slot ≤ 8) (v : Bool) (e : v ≡ liveAt 8 (p .live) (h .slot)) where
+      pub slot-free : not v ≡ true → false ≡ names 8 p h
+      unfolding names
+      slot-free t = rw (le-leb 1 (h .slot) l, le-leb (h .slot) 8 k, ← e, not-true v t)
+
+      module _ (t : not v ≡ false) where
+        pub start-differs : (h .start ≡ getD (p .starts) (h .slot - 1) 0 → ⊥) → false ≡ names 8 p h
+        unfolding names
+        start-differs d = rw (le-leb 1 (h .slot) l, le-leb (h .slot) 8 k, ← e, not-false v t, ne-eqb (h .start) (startAt (p .starts) (h .slot)) d)
+
+        module _ (a : h .start ≡ getD (p .starts) (h .slot - 1) 0) where
+          pub length-differs : (h .length ≡ getD (p .lengths) (h .slot - 1) 0 → ⊥) → false ≡ names 8 p h
+          unfolding names
+          length-differs d =
+              rw (le-leb 1 (h .slot) l, le-leb (h .slot) 8 k, ← e, not-false v t, eq-eqb (h .start) (startAt (p .starts) (h .slot)) a, ne-eqb (h .length) (startAt (p .lengths) (h .slot)) d)
+
+          pub serial-decides : h .length ≡ getD (p .lengths) (h .slot - 1) 0 → eqb (h .serial) (getD (p .serials) (h .slot - 1) 0) ≡ names 8 p h
+          unfolding names
+          serial-decides b =
+              rw (le-leb 1 (h .slot) l, le-leb (h .slot) 8 k, ← e, not-false v t, eq-eqb (h .start) (startAt (p .starts) (h .slot)) a, eq-eqb (h .length) (startAt (p .lengths) (h .slot)) b)
+
+module _ (p : BufferPool) (h : Handle) (b : Bool) (e : b ≡ names 8 p h) where
+  pub release-refused : not b ≡ true → (c : Called) → c ≡ refused p 7 → c ≡ releaseStep 8 p h
+  unfolding releaseStep
+  release-refused t c f = f ∙ rw (← e, not-true b t)
+
+  named : not b ≡ false → names 8 p h ≡ true
+  named t = sym e ∙ not-false b t
+
+  pub named-one : not b ≡ false → 1 ≤ h .slot
+  unfolding names
+  named-one t = leb-true 1 (h .slot) (both-true (leb 1 (h .slot)) _ (named t) .0)
+
+  pub named-most : not b ≡ false → h .slot ≤ 8
+  unfolding names
+  named-most t = leb-true (h .slot) 8 (both-true (leb (h .slot) 8) _ (both-true (leb 1 (h .slot)) _ (named t) .1) .0)
+
+  pub release-done : not b ≡ false → (live : ℕ) → live ≡ released 8 (p .live) (h .slot)
+      → record { pool = marked p live (p .starts) (p .lengths) (p .serials) (p .given); answer = Done } ≡ releaseStep 8 p h
+  unfolding releaseStep
+  release-done t live f = rw (← e, not-false b t, f)

@@ -1,0 +1,66 @@
+-- `steps::hand_out` meets its contract. Assumes nothing.
+use Rattle.buffer_pool.proofs.StepLaws.{handed-out}
+use borrow.Author.Needs.{needs}
+use Rattle.buffer_pool.proofs.steps.hand_out.Statement.{statement}
+use Rattle.buffer_pool.proofs.steps.hand_out.Tie as tie
+
+add-serial : tie.Need-add-serial
+add-serial c = search needs
+
+cast-starts : tie.Need-cast-starts
+cast-starts c = search needs
+
+mul-starts : tie.Need-mul-starts
+mul-starts c = search needs
+
+array-write-starts : tie.Need-array-write-starts
+array-write-starts c = search needs
+
+cast-lengths : tie.Need-cast-lengths
+cast-lengths c = search needs
+
+mul-lengths : tie.Need-mul-lengths
+mul-lengths c = search needs
+
+array-write-lengths : tie.Need-array-write-lengths
+array-write-lengths c = search needs
+
+mul-serials : tie.Need-mul-serials
+mul-serials c = search needs
+
+array-write-serials : tie.Need-array-write-serials
+array-write-serials c = search needs
+
+add-position : tie.Need-add-position
+add-position c = search needs
+
+cast-claim : tie.Need-cast-claim
+cast-claim c = search needs
+
+claim-requires : tie.Need-claim-requires
+claim-requires c κs = search needs
+
+add-t23 : tie.Need-add-t23
+add-t23 c = search needs
+
+returns : tie.Need-returns
+returns c = search handed-out
+
+pub hand-out-spec : {M : Type 1} → statement M
+hand-out-spec =
+    tie.close
+    (tie.spec
+    add-serial
+    cast-starts
+    mul-starts
+    array-write-starts
+    cast-lengths
+    mul-lengths
+    array-write-lengths
+    mul-serials
+    array-write-serials
+    add-position
+    cast-claim
+    claim-requires
+    add-t23
+    returns)

@@ -1,0 +1,242 @@
+// The record steps: what commit, truncate, take and release do to the record and answer, from numbers alone.
+ghost use mathlib.Core.Path.{_≡_};
+ghost use Prim.Native.Nat.{_+_, _≤_, _<_};
+ghost use lib.Dec.{leb, ltb};
+ghost use Rattle.buffer_pool.specs.Sound.{Orderly};
+ghost use Rattle.buffer_pool.specs.Steps as spec;
+use crate::buffer_pool::Answer;
+use crate::buffer_pool::BufferPool;
+use crate::buffer_pool::Called;
+use crate::buffer_pool::Memory;
+use crate::buffer_pool::Place;
+use crate::buffer_pool::PoolFront;
+use crate::buffer_pool::PoolMode;
+use crate::slice::Handle;
+use crate::slice::claim;
+use crate::slice::is_live;
+use crate::slice::release;
+
+// A refused call leaves the record.
+pub(crate) fn refused(p: BufferPool, number: u8) -> Called
+    ensures { λ r. ⌜ r ≡ spec.refused p number ⌝ }
+{
+    Called {
+        pool: p,
+        answer: Answer::Refused(number),
+    }
+}
+
+// The frame: in the pool, or at the overflow's start.
+pub(crate) fn frame(p: BufferPool) -> Place
+    ensures { λ r. ⌜ r ≡ spec.frameOf (p .mode) p ⌝ }
+{
+    let mode = p.mode;
+    match mode {
+        PoolMode::Back => Place {
+            memory: Memory::Pool,
+            start: p.raw_offset,
+            length: p.raw_len,
+        },
+        PoolMode::Front(_) => Place {
+            memory: Memory::Pool,
+            start: p.raw_offset,
+            length: p.raw_len,
+        },
+        PoolMode::Alloc => Place {
+            memory: Memory::Overflow,
+            start: 0,
+            length: p.cursor,
+        },
+    }
+}
+
+// The record with a frame of another length, its reservation spent.
+fn resized(p: BufferPool, len: u64) -> BufferPool
+    ensures { λ r. ⌜ r ≡ spec.resized (p .mode) p len ⌝ }
+{
+    let mode = p.mode;
+    match mode {
+        PoolMode::Back => p.framed(PoolMode::Back, p.raw_offset, len, p.kept, p.cursor, 0),
+        PoolMode::Front(f) => p.framed(PoolMode::Front(f), p.raw_offset, len, p.kept, p.cursor, 0),
+        PoolMode::Alloc => p.framed(PoolMode::Alloc, p.raw_offset, p.raw_len, p.kept, len, 0),
+    }
+}
+
+// The record after a change of the frame's length, and the frame as the answer.
+fn reframed(p: BufferPool) -> Called
+    ensures { λ r. ⌜ r ≡ spec.reframed p ⌝ }
+{
+    Called {
+        pool: p,
+        answer: Answer::Framed(frame(p)),
+    }
+}
+
+// Commit: the first `n` bytes of the reservation join the frame.
+pub(crate) fn commit_step(p: BufferPool, n: u64) -> Called
+    requires { ⌜ Orderly 8 p ⌝ }
+    ensures { λ r. ⌜ r ≡ spec.commitStep p n ⌝ }
+{
+    if p.reserved < n {
+        return refused(p, 5);
+    }
+    let whole = frame(p);
+    reframed(resized(p, whole.length + n))
+}
+
+// Truncate: the frame keeps at most its first `n` bytes.
+pub(crate) fn truncate_step(p: BufferPool, n: u64) -> Called
+    ensures { λ r. ⌜ r ≡ spec.truncateStep p n ⌝ }
+{
+    let whole = frame(p);
+    if n < whole.length {
+        return reframed(resized(p, n));
+    }
+    reframed(resized(p, whole.length))
+}
+
+// The frame as the slice of the next slot, with the next serial; an empty frame begins after it: `InnerMemory::get_data_owned`.
+fn hand_out(p: BufferPool, mode: PoolMode, back_len: usize) -> BufferPool
+    requires { ⌜ (p .used < 8) × (p .«raw_offset» + p .«raw_len» ≤ 4294967295) × (p .given < 4294967295) ⌝ }
+    ensures { λ r. ⌜ r ≡ spec.handedOut 8 p mode «back_len» ⌝ }
+{
+    let k = p.used;
+    let serial = p.given + 1;
+    let mut starts = p.starts;
+    starts[k] = p.raw_offset as u32;
+    let mut lengths = p.lengths;
+    lengths[k] = p.raw_len as u32;
+    let mut serials = p.serials;
+    serials[k] = serial;
+    let position = k + 1;
+    BufferPool {
+        capacity: p.capacity,
+        overflow: p.overflow,
+        live: claim(p.live, position as u8),
+        starts: starts,
+        lengths: lengths,
+        serials: serials,
+        given: serial,
+        back_start: p.back_start,
+        back_len: back_len,
+        used: position,
+        raw_offset: p.raw_offset + p.raw_len,
+        raw_len: 0,
+        mode: mode,
+        kept: p.kept,
+        cursor: p.cursor,
+        reserved: 0,
+    }
+}
+
+// A take of a non-empty frame of the pool.
+fn take_pooled(p: BufferPool, mode: PoolMode, back_len: usize) -> Called
+    requires { ⌜ (p .used < 8) × (p .«raw_offset» + p .«raw_len» ≤ 4294967295) ⌝ }
+    ensures { λ r. ⌜ r ≡ spec.pooled (leb 4294967295 (p .given)) 8 p mode «back_len» ⌝ }
+{
+    if 4294967295 <= p.given {
+        return refused(p, 8);
+    }
+    let handle = Handle {
+        slot: (p.used + 1) as u8,
+        start: p.raw_offset as u32,
+        length: p.raw_len as u32,
+        serial: p.given + 1,
+    };
+    Called {
+        pool: hand_out(p, mode, back_len),
+        answer: Answer::Taken(handle),
+    }
+}
+
+// A take of a non-empty frame of the overflow, to a destination of this length.
+fn take_copied(p: BufferPool, destination: u64) -> Called
+    requires { ⌜ p .cursor ≤ p .kept ⌝ }
+    ensures { λ r. ⌜ r ≡ spec.copiedOutOn (ltb destination (p .cursor)) p ⌝ }
+{
+    let cursor = p.cursor;
+    if destination < cursor {
+        return refused(p, 6);
+    }
+    Called {
+        pool: p.framed(
+            PoolMode::Alloc,
+            p.raw_offset,
+            p.raw_len,
+            p.kept - cursor,
+            0,
+            0,
+        ),
+        answer: Answer::Copied(cursor),
+    }
+}
+
+// Take: the frame becomes a slice of the pool, or is copied to a destination of this length.
+pub(crate) fn take_step(p: BufferPool, destination: u64) -> Called
+    requires { ⌜ (Orderly 8 p) × (p .capacity ≤ 4294967295) ⌝ }
+    ensures { λ r. ⌜ r ≡ spec.takeStep 8 p destination ⌝ }
+{
+    let whole = frame(p);
+    if whole.length == 0 {
+        return Called {
+            pool: resized(p, whole.length),
+            answer: Answer::Copied(0),
+        };
+    }
+    let mode = p.mode;
+    match mode {
+        PoolMode::Back => take_pooled(p, PoolMode::Back, p.used + 1 - p.back_start),
+        PoolMode::Front(f) => take_pooled(
+            p,
+            PoolMode::Front(PoolFront {
+                back_start: f.back_start,
+                byte_capacity: f.byte_capacity,
+                len: p.used + 1,
+            }),
+            p.back_len,
+        ),
+        PoolMode::Alloc => take_copied(p, destination),
+    }
+}
+
+// Does the handle name a live slot, with that slot's start, length and serial?
+pub(crate) fn names(p: BufferPool, h: Handle) -> bool
+    ensures { λ r. ⌜ r ≡ spec.names 8 p h ⌝ }
+{
+    let slot = h.slot;
+    if slot < 1 {
+        return false;
+    }
+    if 8 < slot {
+        return false;
+    }
+    if !is_live(p.live, slot) {
+        return false;
+    }
+    let i = slot as usize - 1;
+    let starts = p.starts;
+    if h.start != starts[i] {
+        return false;
+    }
+    let lengths = p.lengths;
+    if h.length != lengths[i] {
+        return false;
+    }
+    let serials = p.serials;
+    h.serial == serials[i]
+}
+
+// Release: the slot of the handle is free.
+pub(crate) fn release_step(p: BufferPool, h: Handle) -> Called
+    ensures { λ r. ⌜ r ≡ spec.releaseStep 8 p h ⌝ }
+{
+    if !names(p, h) {
+        return refused(p, 7);
+    }
+    let mut q = p;
+    q.live = release(p.live, h.slot);
+    Called {
+        pool: q,
+        answer: Answer::Done,
+    }
+}
