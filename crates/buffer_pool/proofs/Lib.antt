@@ -20,6 +20,8 @@ pub mod ResetLaws
 pub mod SlotPassLaws
 pub mod SoundTestLaws
 pub mod StepLaws
+pub mod MovesInside
+pub mod PerformLaws
 pub mod SoundKept
 pub mod HeapMoves
 pub mod RustFunctions

@@ -1,6 +1,8 @@
 -- The byte moves of a call, and what each leaves in the two lent memories: every byte of both is determined.
 use mathlib.Core.List.{List, [], _∷_}
-use Prim.Native.Nat.{ℕ, zero, suc}
+use mathlib.Core.Bool.{Bool, true, false, _&&_}
+use Prim.Native.Nat.{ℕ, zero, suc, _+_}
+use lib.Dec.{leb}
 use Rattle.laws.specs.Lists.{copied, moved, zeroed}
 
 -- the pool memory and the overflow (document 01's second lent memory, in place of the Rust's heap)
@@ -40,3 +42,15 @@ perform (a ∷ rest) m = perform rest (act m a)
 abbrev pub within : ℕ → ℕ → ℕ → List Move
 within start zero to = []
 within start (suc l) to = Within start (suc l) to ∷ []
+
+-- do the places of a move lie in memories of these lengths (pool, overflow)?
+unfoldable pub inside : ℕ → ℕ → Move → Bool
+inside pool overflow (Within start len to) = leb (start + len) pool && leb (to + len) pool
+inside pool overflow (In len) = leb len overflow && leb len pool
+inside pool overflow (Down start len) = leb (start + len) overflow
+inside pool overflow (Out start len) = leb (start + len) pool && leb len overflow
+inside pool overflow (Grow start end) = leb start end && leb end overflow
+
+unfoldable pub allInside : ℕ → ℕ → List Move → Bool
+allInside pool overflow [] = true
+allInside pool overflow (a ∷ rest) = inside pool overflow a && allInside pool overflow rest

@@ -4,6 +4,7 @@
 pub mod buffer_pool;
 mod inner_memory;
 pub mod moves;
+mod performing;
 mod placing;
 mod pool_back;
 mod pool_front;
