@@ -22,6 +22,7 @@ pub mod SoundTestLaws
 pub mod StepLaws
 pub mod MovesInside
 pub mod PerformLaws
+pub mod CallLaws
 pub mod SoundKept
 pub mod HeapMoves
 pub mod RustFunctions

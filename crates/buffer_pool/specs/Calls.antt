@@ -40,6 +40,10 @@ misfit r m = not (eqb (length (m .pool)) (r .capacity) && eqb (length (m .overfl
 abbrev pub guarded : {A : Type 0} → ℕ → BufferPool → Memories → (ℕ → A) → A → A
 guarded w r m refuse done = pick (not (sound w r)) (refuse 1) (pick (misfit r m) (refuse 2) done)
 
+-- the number of the cause that turns every call away, or 0
+unfoldable pub cause : ℕ → BufferPool → Memories → ℕ
+cause w r m = guarded w r m (λ number. number) 0
+
 -- a call that is refused with 1 or 2 leaves everything
 abbrev pub guardedCall : ℕ → BufferPool → Memories → List ℕ → Outcome → Outcome
 guardedCall w r m destination done = guarded w r m (λ number. outcome (refused r number) m destination) done

@@ -2,6 +2,7 @@
 // Every function here is proved to meet its contract. No public function has a `requires`: a call refuses by number, and a
 // refused call changes nothing.
 pub mod buffer_pool;
+mod calls;
 mod inner_memory;
 pub mod moves;
 mod performing;

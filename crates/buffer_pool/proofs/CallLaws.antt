@@ -1,0 +1,257 @@
+-- The calls, from what the code of calls.rt knows where it returns: what turns every call away, then the call's own. Assumes nothing.
+use mathlib.Core.Path.{_≡_, refl, sym, ap, _∙_, subst}
+use mathlib.Core.Bool.{Bool, true, false, not, _&&_, _||_}
+use mathlib.Core.List.{List, [], _∷_, _++_, append-nil}
+use Prim.Native.Nat.{ℕ, zero, suc, _+_, _-_, _≤_, _<_}
+use native.Mathlib.Nat.{le-refl, sub-zero}
+use native.Mathlib.Omega.{arith}
+use mir.Val.{Fits}
+use mir.Syntax.{w64}
+use lib.Dec.{leb, ltb, eqb}
+use lib.ListN.{length, replicate, drop-of-length-le}
+use borrow.Author.Tests.{lt-ltb, le-ltb, eq-eqb, ne-eqb, eqb-true}
+use Rattle.laws.specs.Tests.{pick}
+use Rattle.laws.specs.Lists.{zeroed}
+use Rattle.laws.proofs.Tests.{both-true, no-true, not-true, not-false}
+use Rattle.buffer_pool.specs.declared.slice.Handle.{Handle}
+use Rattle.buffer_pool.specs.declared.buffer_pool.BufferPool.{BufferPool}
+use Rattle.buffer_pool.specs.declared.buffer_pool.PoolMode.{PoolMode}
+use Rattle.buffer_pool.specs.declared.buffer_pool.PoolMode.the-variants.{Back, Front, Alloc}
+use Rattle.buffer_pool.specs.declared.buffer_pool.Place.{Place}
+use Rattle.buffer_pool.specs.declared.buffer_pool.Answer.the-variants.{Done, Reserved, Refused}
+use Rattle.buffer_pool.specs.declared.buffer_pool.Called.{Called}
+use Rattle.buffer_pool.specs.declared.placing.Decided.{Decided}
+use Rattle.buffer_pool.specs.Record.{byteLimit, newRecord}
+use Rattle.buffer_pool.specs.Moves.{Memories, memories, perform, allInside}
+use Rattle.buffer_pool.specs.MoveList.{listed}
+use Rattle.buffer_pool.specs.Placing.{Decision, isAlloc, place, tooLong}
+use Rattle.buffer_pool.specs.Deciding.{frontLen, Placeable, Decides, decisionOf}
+use Rattle.buffer_pool.specs.Soundness.{sound}
+use Rattle.buffer_pool.specs.Sound.{Orderly, InMode}
+use Rattle.buffer_pool.specs.Steps.{called, refused, at, frameOf, reservation, reserveOn, reserveStep, commitStep, truncateStep, releaseStep}
+use Rattle.buffer_pool.specs.Calls.{Outcome, outcome, misfit, guarded, cause, guardedCall, new, reserve, commit, truncate, release}
+use Rattle.buffer_pool.proofs.Soundness.{sound-use}
+use Rattle.buffer_pool.proofs.MovesInside.{moves-inside}
+use Rattle.buffer_pool.proofs.ReserveKept.{place-orderly}
+use Rattle.buffer_pool.proofs.Unchanged.{place-capacity, place-overflow}
+
+-- ---- What turns every call away
+
+module _ (p : BufferPool) (m : Memories) (b : Bool) (e : b ≡ sound 8 p) where
+  pub cause-unsound : not b ≡ true → 1 ≡ cause 8 p m
+  unfolding cause
+  cause-unsound h = rw (← e, not-true b h)
+
+  module _ (h : not b ≡ false) where
+    pub cause-pool : (length (m .pool) ≡ p .capacity → ⊥) → 2 ≡ cause 8 p m
+    unfolding cause misfit
+    cause-pool n = rw (← e, not-false b h, ne-eqb (length (m .pool)) (p .capacity) n)
+
+    module _ (c : length (m .pool) ≡ p .capacity) where
+      pub cause-overflow : (length (m .overflow) ≡ p .overflow → ⊥) → 2 ≡ cause 8 p m
+      unfolding cause misfit
+      cause-overflow n = rw (← e, not-false b h, eq-eqb (length (m .pool)) (p .capacity) c, ne-eqb (length (m .overflow)) (p .overflow) n)
+
+      pub cause-none : length (m .overflow) ≡ p .overflow → 0 ≡ cause 8 p m
+      unfolding cause misfit
+      cause-none o = rw (← e, not-false b h, eq-eqb (length (m .pool)) (p .capacity) c, eq-eqb (length (m .overflow)) (p .overflow) o)
+
+-- a guarded answer, by the cause's two tests: is the record sound, do the memories not fit
+abbrev number : Bool → Bool → ℕ
+number s f = pick (not s) 1 (pick f 2 0)
+
+guarded-by : {A : Type 0} (s f : Bool) (refuse : ℕ → A) (done : A)
+    → (number s f ≡ 0 → ⊥) → refuse (number s f) ≡ pick (not s) (refuse 1) (pick f (refuse 2) done)
+guarded-by true true refuse done n = refl
+guarded-by true false refuse done n = absurd (n refl)
+guarded-by false f refuse done n = refl
+
+passed-by : {A : Type 0} (s f : Bool) (refuse : ℕ → A) (done : A) → number s f ≡ 0 → done ≡ pick (not s) (refuse 1) (pick f (refuse 2) done)
+passed-by true true refuse done e = absurd (omega arith)
+passed-by true false refuse done e = refl
+passed-by false f refuse done e = absurd (omega arith)
+
+sound-by : (s f : Bool) → number s f ≡ 0 → s ≡ true
+sound-by true f e = refl
+sound-by false f e = absurd (omega arith)
+
+fits-by : (s f : Bool) → number s f ≡ 0 → f ≡ false
+fits-by true true e = absurd (omega arith)
+fits-by true false e = refl
+fits-by false f e = absurd (omega arith)
+
+module _ (p : BufferPool) (m : Memories) (k : ℕ) (e : k ≡ cause 8 p m) where
+  -- a call that is turned away
+  pub turned-away : (k ≡ 0 → ⊥) → (destination : List ℕ) (c : Called) (done : Outcome) → c ≡ refused p k → outcome c m destination ≡ guardedCall 8 p m destination done
+  unfolding cause
+  turned-away n destination c done f =
+      ap (λ (x : Called). outcome x m destination) (f ∙ ap (refused p) e)
+      ∙ guarded-by (sound 8 p) (misfit p m) (λ number. outcome (refused p number) m destination) done (λ z. n (e ∙ z))
+
+  module _ (z : k ≡ 0) where
+    -- a call that is not
+    pub let-through : (destination : List ℕ) (o done : Outcome) → o ≡ done → o ≡ guardedCall 8 p m destination done
+    unfolding cause
+    let-through destination o done f =
+        f ∙ passed-by (sound 8 p) (misfit p m) (λ number. outcome (refused p number) m destination) done (sym e ∙ z)
+
+    pub through-sound : sound 8 p ≡ true
+    unfolding cause
+    through-sound = sound-by (sound 8 p) (misfit p m) (sym e ∙ z)
+
+    pub through-orderly : Orderly 8 p
+    through-orderly = sound-use 8 p through-sound .orderly
+
+    pub through-pool : length (m .pool) ≡ p .capacity
+    unfolding cause misfit
+    through-pool = eqb-true (length (m .pool)) (p .capacity) (both-true _ _ (not-false _ (fits-by (sound 8 p) (misfit p m) (sym e ∙ z))) .0)
+
+    pub through-overflow : length (m .overflow) ≡ p .overflow
+    unfolding cause misfit
+    through-overflow =
+        eqb-true (length (m .overflow)) (p .overflow) (both-true (eqb (length (m .pool)) (p .capacity)) _ (not-false _ (fits-by (sound 8 p) (misfit p m) (sym e ∙ z))) .1)
+
+-- ---- The calls that move no byte
+
+module _ (p : BufferPool) (m : Memories) (k : ℕ) (e : k ≡ cause 8 p m) (c : Called) where
+  module _ (n : ℕ) where
+    pub commit-turned : (k ≡ 0 → ⊥) → c ≡ refused p k → outcome c m [] ≡ commit 8 p m n
+    unfolding commit
+    commit-turned h f = turned-away p m k e h [] c (outcome (commitStep p n) m []) f
+
+    pub commit-through : k ≡ 0 → c ≡ commitStep p n → outcome c m [] ≡ commit 8 p m n
+    unfolding commit
+    commit-through z f = let-through p m k e z [] (outcome c m []) (outcome (commitStep p n) m []) (ap (λ (x : Called). outcome x m []) f)
+
+    pub truncate-turned : (k ≡ 0 → ⊥) → c ≡ refused p k → outcome c m [] ≡ truncate 8 p m n
+    unfolding truncate
+    truncate-turned h f = turned-away p m k e h [] c (outcome (truncateStep p n) m []) f
+
+    pub truncate-through : k ≡ 0 → c ≡ truncateStep p n → outcome c m [] ≡ truncate 8 p m n
+    unfolding truncate
+    truncate-through z f = let-through p m k e z [] (outcome c m []) (outcome (truncateStep p n) m []) (ap (λ (x : Called). outcome x m []) f)
+
+  module _ (h : Handle) where
+    pub release-turned : (k ≡ 0 → ⊥) → c ≡ refused p k → outcome c m [] ≡ release 8 p m h
+    unfolding release
+    release-turned n f = turned-away p m k e n [] c (outcome (releaseStep 8 p h) m []) f
+
+    pub release-through : k ≡ 0 → c ≡ releaseStep 8 p h → outcome c m [] ≡ release 8 p m h
+    unfolding release
+    release-through z f = let-through p m k e z [] (outcome c m []) (outcome (releaseStep 8 p h) m []) (ap (λ (x : Called). outcome x m []) f)
+
+-- ---- New
+
+all-zeroed : (l : List ℕ) → zeroed l 0 (length l) ≡ replicate (length l) 0
+unfolding zeroed
+all-zeroed l = rw (drop-of-length-le l (le-refl (length l)), append-nil, sub-zero)
+
+module _ (pool overflow : List ℕ) (c : Called) where
+  pub new-pool-long : 1048576 < length pool → (q : BufferPool) → q ≡ newRecord 8 0 0 → c ≡ refused q 3 → outcome c (memories pool overflow) [] ≡ new 8 (memories pool overflow)
+  unfolding new
+  new-pool-long h q e f = rw (f, e, lt-ltb 1048576 (length pool) h)
+
+  pub new-overflow-long : length pool ≤ 1048576 → 1048576 < length overflow → (q : BufferPool) → q ≡ newRecord 8 0 0 → c ≡ refused q 3
+      → outcome c (memories pool overflow) [] ≡ new 8 (memories pool overflow)
+  unfolding new
+  new-overflow-long h k q e f = rw (f, e, le-ltb 1048576 (length pool) h, lt-ltb 1048576 (length overflow) k)
+
+pub new-done : (pool overflow cleared : List ℕ) → length pool ≤ 1048576 → length overflow ≤ 1048576 → cleared ≡ zeroed pool 0 (length pool)
+    → (q : BufferPool) → q ≡ newRecord 8 (length pool) (length overflow)
+    → outcome (record { pool = q; answer = Done }) (memories cleared overflow) [] ≡ new 8 (memories pool overflow)
+unfolding new
+new-done pool overflow cleared h k z q e =
+    rw (z, e, le-ltb 1048576 (length pool) h, le-ltb 1048576 (length overflow) k, all-zeroed pool)
+
+-- ---- Reserve
+
+pub reservation-as : (p : BufferPool) (f : Place) → f ≡ frameOf (p .mode) p → at (f .memory) (f .start + f .length) (p .reserved) ≡ reservation p
+reservation-as p f e = ap (λ (x : Place). at (x .memory) (x .start + x .length) (p .reserved)) e
+
+pub reservation-fits : (p : BufferPool) (f : Place) → f ≡ frameOf (p .mode) p → frameOf (p .mode) p .start + frameOf (p .mode) p .length ≤ 18446744073709551615
+    → Fits w64 (f .start + f .length)
+reservation-fits p f e h = record { fits = rw e (omega arith) }
+
+-- what place asks of a record
+pub orderly-placeable : (p : BufferPool) → Orderly 8 p → Placeable 8 p
+orderly-placeable p O = record { back-within = O .ready .back-within; front-within = slots (p .mode) (O .in-mode); no-cursor = cursor (p .mode) (O .in-mode) }
+  where
+    slots : (mode : PoolMode) → InMode 8 mode p (p .reserved) → frontLen mode ≤ 8
+    slots Back I = omega arith
+    slots (Front f) I = omega (arith, I .len-within, I .front-within, O .ready .start-below)
+    slots Alloc I = omega arith
+
+    cursor : (mode : PoolMode) → InMode 8 mode p (p .reserved) → isAlloc mode ≡ false → p .cursor ≡ 0
+    cursor Back I e = I .no-cursor
+    cursor (Front f) I e = I .no-cursor
+    cursor Alloc I e = absurd (no-true (sym e))
+
+pub orderly-cursor : (p : BufferPool) → Orderly 8 p → isAlloc (p .mode) ≡ true → p .cursor ≤ p .kept
+orderly-cursor p O e = go (p .mode) e (O .in-mode)
+  where
+    go : (mode : PoolMode) → isAlloc mode ≡ true → InMode 8 mode p (p .reserved) → p .cursor ≤ p .kept
+    go Back e I = absurd (no-true e)
+    go (Front f) e I = absurd (no-true e)
+    go Alloc e I = omega (arith, I .fits)
+
+-- the frame ends within a memory, whose length is a 64-bit number
+frame-end : (q : BufferPool) → Orderly 8 q → q .capacity ≤ byteLimit → q .overflow ≤ byteLimit → frameOf (q .mode) q .start + frameOf (q .mode) q .length ≤ 18446744073709551615
+frame-end q O c o = go (q .mode) (O .in-mode)
+  where
+    go : (mode : PoolMode) → InMode 8 mode q (q .reserved) → frameOf mode q .start + frameOf mode q .length ≤ 18446744073709551615
+    go Back I = omega (arith, I .fits)
+    go (Front f) I = omega (arith, I .fits, I .bytes-within)
+    go Alloc I = omega (arith, I .fits, O .kept-within)
+
+module _ (p : BufferPool) (m : Memories) (len k : ℕ) (e : k ≡ cause 8 p m) where
+  pub reserve-turned : (k ≡ 0 → ⊥) → (c : Called) → c ≡ refused p k → outcome c m [] ≡ reserve 8 p m len
+  unfolding reserve
+  reserve-turned n c f = turned-away p m k e n [] c _ f
+
+  module _ (z : k ≡ 0) (d : Decided) (D : Decides d (place 8 p len) len) where
+    pub reserve-short : d .«too_long» ≡ true → (c : Called) → c ≡ refused p 4 → outcome c m [] ≡ reserve 8 p m len
+    unfolding reserve reserveStep reserveOn
+    reserve-short t c f =
+        let-through p m k e z [] (outcome c m []) _ (f′ ∙ rw (sym (D .too-long) ∙ t))
+      where
+        f′ : outcome c m [] ≡ outcome (refused p 4) m []
+        f′ = ap (λ (x : Called). outcome x m []) f
+
+    module _ (t : d .«too_long» ≡ false) where
+      fits : tooLong (place 8 p len) len ≡ false
+      fits = sym (D .too-long) ∙ t
+
+      same : decisionOf d ≡ place 8 p len
+      same = D .decision fits
+
+      moves-is : listed (d .moves) ≡ place 8 p len .moves
+      unfolding decisionOf
+      moves-is = ap (λ (x : Decision). x .moves) same
+
+      next-is : d .pool ≡ place 8 p len .next
+      unfolding decisionOf
+      next-is = ap (λ (x : Decision). x .next) same
+
+      changes-is : d .changes ≡ place 8 p len .changes
+      unfolding decisionOf
+      changes-is = ap (λ (x : Decision). x .changes) same
+
+      inside-memories : allInside (length (m .pool)) (length (m .overflow)) (listed (d .moves)) ≡ true
+      inside-memories =
+          rw (through-pool p m k e z, through-overflow p m k e z, moves-is) (moves-inside 8 p (through-orderly p m k e z) len fits)
+
+      pub decided-sum : frameOf (d .pool .mode) (d .pool) .start + frameOf (d .pool .mode) (d .pool) .length ≤ 18446744073709551615
+      decided-sum =
+          let S = sound-use 8 p (through-sound p m k e z) in
+          subst (λ (q : BufferPool). frameOf (q .mode) q .start + frameOf (q .mode) q .length ≤ 18446744073709551615) (sym next-is)
+          (frame-end (place 8 p len .next) (place-orderly 8 p len (S .orderly) fits)
+          (omega (arith, place-capacity 8 p len, S .capacity-limit)) (omega (arith, place-overflow 8 p len, S .overflow-limit)))
+
+      pub reserve-done : (n : Memories) → n ≡ perform (listed (d .moves)) m → (f : Place) → f ≡ reservation (d .pool)
+          → outcome (record { pool = d .pool; answer = Reserved f (d .changes) }) n [] ≡ reserve 8 p m len
+      unfolding reserve reserveStep reserveOn
+      reserve-done n g f h = let-through p m k e z [] _ _ (rw (fits, g, h, moves-is, next-is, changes-is))
+
+pub decided-inside : (p : BufferPool) (pool overflow : List ℕ) (len k : ℕ) → k ≡ cause 8 p (memories pool overflow) → k ≡ 0 → (d : Decided) → Decides d (place 8 p len) len
+    → d .«too_long» ≡ false → allInside (length pool) (length overflow) (listed (d .moves)) ≡ true
+decided-inside p pool overflow len k e z d D t = inside-memories p (memories pool overflow) len k e z d D t

@@ -1,0 +1,128 @@
+// The calls. Each takes the record by value and both lent memories, refuses by document 01's numbers in its order (1, 2, then its
+// own), and gives the record back with the answer; a refused call changes nothing.
+ghost use mathlib.Core.Path.{_≡_};
+ghost use mathlib.Core.List.{[]};
+ghost use Prim.Native.Nat.{_+_, _≤_};
+ghost use Rattle.buffer_pool.specs.Moves.{memories};
+ghost use Rattle.buffer_pool.specs.Steps as steps;
+ghost use Rattle.buffer_pool.specs.Calls as spec;
+use crate::buffer_pool::Answer;
+use crate::buffer_pool::BufferPool;
+use crate::buffer_pool::Called;
+use crate::buffer_pool::Place;
+use crate::inner_memory::copy_between;
+use crate::inner_memory::copy_within;
+use crate::inner_memory::fill_zero;
+use crate::performing::perform;
+use crate::placing::place;
+use crate::slice::Handle;
+use crate::steps;
+
+// What turns every call away: 1 if the record is unsound, 2 if a memory has another length than the record's, or 0.
+pub(crate) fn guard(p: BufferPool, pool: &[u8], overflow: &[u8]) -> u8
+    ensures { λ r. ⌜ r ≡ spec.cause 8 p (memories (now (pool .entry)) (now (overflow .entry))) ⌝ }
+{
+    if !p.is_sound() {
+        return 1;
+    }
+    if pool.len() as u64 != p.capacity {
+        return 2;
+    }
+    if overflow.len() as u64 != p.overflow {
+        return 2;
+    }
+    0
+}
+
+// The reservation: after the frame, in the same memory.
+pub(crate) fn reservation(p: BufferPool) -> Place
+    requires { ⌜ steps.frameOf (p .mode) p .start + steps.frameOf (p .mode) p .length ≤ 18446744073709551615 ⌝ }
+    ensures { λ r. ⌜ r ≡ steps.reservation p ⌝ }
+{
+    let frame = steps::frame(p);
+    let memory = frame.memory;
+    Place {
+        memory: memory,
+        start: frame.start + frame.length,
+        length: p.reserved,
+    }
+}
+
+impl BufferPool {
+    // A new pool: the pool memory is cleared, the overflow stays as it is. Refuses with 3 if either memory is longer than the
+    // byte limit, and then gives the record of a new pool whose two lengths are 0.
+    pub fn new(pool: &mut [u8], overflow: &[u8]) -> Called
+        ensures { λ r. ⌜ spec.outcome r (memories (now (pool .exit)) (now (overflow .entry))) [] ≡ spec.new 8 (memories (now (pool .entry)) (now (overflow .entry))) ⌝ }
+    {
+        let n = pool.len();
+        let capacity = n as u64;
+        let length = overflow.len() as u64;
+        if BufferPool::BYTE_LIMIT < capacity {
+            return steps::refused(BufferPool::with_lengths(0, 0), 3);
+        }
+        if BufferPool::BYTE_LIMIT < length {
+            return steps::refused(BufferPool::with_lengths(0, 0), 3);
+        }
+        fill_zero(pool, 0, n);
+        Called {
+            pool: BufferPool::with_lengths(capacity, length),
+            answer: Answer::Done,
+        }
+    }
+
+    // Room for `len` more bytes after the frame: gives the reservation's place and how often the mode changed. Refuses with 1, 2,
+    // and with 4 if the overflow would be used and is too short for frame and reservation. Bytes move only once that is known.
+    pub fn reserve(self, pool: &mut [u8], overflow: &mut [u8], len: u64) -> Called
+        ensures { λ r. ⌜ spec.outcome r (memories (now (pool .exit)) (now (overflow .exit))) [] ≡ spec.reserve 8 self (memories (now (pool .entry)) (now (overflow .entry))) len ⌝ }
+    {
+        let number = guard(self, pool, overflow);
+        if number != 0 {
+            return steps::refused(self, number);
+        }
+        let d = place(self, len);
+        if d.too_long {
+            return steps::refused(self, 4);
+        }
+        let moves = d.moves;
+        perform(pool, overflow, moves);
+        let next = d.pool;
+        Called {
+            pool: next,
+            answer: Answer::Reserved(reservation(next), d.changes),
+        }
+    }
+
+    // The first `n` bytes of the reservation join the frame: gives the frame's place. Refuses with 1, 2, and with 5 if `n` exceeds
+    // the reservation.
+    pub fn commit(self, pool: &[u8], overflow: &[u8], n: u64) -> Called
+        ensures { λ r. ⌜ spec.outcome r (memories (now (pool .entry)) (now (overflow .entry))) [] ≡ spec.commit 8 self (memories (now (pool .entry)) (now (overflow .entry))) n ⌝ }
+    {
+        let number = guard(self, pool, overflow);
+        if number != 0 {
+            return steps::refused(self, number);
+        }
+        steps::commit_step(self, n)
+    }
+
+    // The frame keeps at most its first `n` bytes: gives the frame's place. Refuses with 1 and 2.
+    pub fn truncate(self, pool: &[u8], overflow: &[u8], n: u64) -> Called
+        ensures { λ r. ⌜ spec.outcome r (memories (now (pool .entry)) (now (overflow .entry))) [] ≡ spec.truncate 8 self (memories (now (pool .entry)) (now (overflow .entry))) n ⌝ }
+    {
+        let number = guard(self, pool, overflow);
+        if number != 0 {
+            return steps::refused(self, number);
+        }
+        steps::truncate_step(self, n)
+    }
+
+    // The slot of the handle is free again. Refuses with 1, 2, and with 7 if the handle names no live slice.
+    pub fn release(self, pool: &[u8], overflow: &[u8], h: Handle) -> Called
+        ensures { λ r. ⌜ spec.outcome r (memories (now (pool .entry)) (now (overflow .entry))) [] ≡ spec.release 8 self (memories (now (pool .entry)) (now (overflow .entry))) h ⌝ }
+    {
+        let number = guard(self, pool, overflow);
+        if number != 0 {
+            return steps::refused(self, number);
+        }
+        steps::release_step(self, h)
+    }
+}
