@@ -9,9 +9,9 @@ use mir.Val.{Fits}
 use mir.Syntax.{w64}
 use lib.Dec.{leb, ltb, eqb}
 use lib.ListN.{length, replicate, drop-of-length-le}
-use borrow.Author.Tests.{lt-ltb, le-ltb, eq-eqb, ne-eqb, eqb-true}
+use borrow.Author.Tests.{lt-ltb, le-ltb, eq-eqb, ne-eqb, eqb-true, ltb-false}
 use Rattle.laws.specs.Tests.{pick}
-use Rattle.laws.specs.Lists.{zeroed}
+use Rattle.laws.specs.Lists.{copied, moved, zeroed}
 use Rattle.laws.proofs.Tests.{both-true, no-true, not-true, not-false}
 use Rattle.buffer_pool.specs.declared.slice.Handle.{Handle}
 use Rattle.buffer_pool.specs.declared.buffer_pool.BufferPool.{BufferPool}
@@ -22,15 +22,16 @@ use Rattle.buffer_pool.specs.declared.buffer_pool.Answer.the-variants.{D
 use Rattle.buffer_pool.specs.declared.buffer_pool.Called.{Called}
 use Rattle.buffer_pool.specs.declared.placing.Decided.{Decided}
 use Rattle.buffer_pool.specs.Record.{byteLimit, newRecord}
-use Rattle.buffer_pool.specs.Moves.{Memories, memories, perform, allInside}
+use Rattle.buffer_pool.specs.Moves.{Memories, memories, act, perform, allInside}
 use Rattle.buffer_pool.specs.MoveList.{listed}
 use Rattle.buffer_pool.specs.Placing.{Decision, isAlloc, place, tooLong}
 use Rattle.buffer_pool.specs.Deciding.{frontLen, Placeable, Decides, decisionOf}
 use Rattle.buffer_pool.specs.Soundness.{sound}
 use Rattle.buffer_pool.specs.Sound.{Orderly, InMode}
-use Rattle.buffer_pool.specs.Steps.{called, refused, at, frameOf, reservation, reserveOn, reserveStep, commitStep, truncateStep, releaseStep}
-use Rattle.buffer_pool.specs.Calls.{Outcome, outcome, misfit, guarded, cause, guardedCall, new, reserve, commit, truncate, release}
+use Rattle.buffer_pool.specs.Steps.{called, refused, at, frameOf, reservation, pooled, takeOn, takeStep, mostSerials, copiedLength, takeMoves, reserveOn, reserveStep, commitStep, truncateStep, releaseStep}
+use Rattle.buffer_pool.specs.Calls.{Outcome, outcome, misfit, guarded, cause, guardedCall, new, reserve, commit, truncate, copiedOut, take, release}
 use Rattle.buffer_pool.proofs.Soundness.{sound-use}
+use Rattle.buffer_pool.proofs.ByteLaws.{copied-none}
 use Rattle.buffer_pool.proofs.MovesInside.{moves-inside}
 use Rattle.buffer_pool.proofs.ReserveKept.{place-orderly}
 use Rattle.buffer_pool.proofs.Unchanged.{place-capacity, place-overflow}
@@ -101,6 +102,9 @@ module _ (p : BufferPool) (m : Memories) (k : ℕ) (e : k ≡ cause 8 p m) where
 
     pub through-orderly : Orderly 8 p
     through-orderly = sound-use 8 p through-sound .orderly
+
+    pub through-capacity : p .capacity ≤ 4294967295
+    through-capacity = omega (arith, sound-use 8 p through-sound .capacity-limit)
 
     pub through-pool : length (m .pool) ≡ p .capacity
     unfolding cause misfit
@@ -255,3 +259,74 @@ module _ (p : BufferPool) (m : Memories) (len k : ℕ) (e : k ≡ cause 8 p m) w
 pub decided-inside : (p : BufferPool) (pool overflow : List ℕ) (len k : ℕ) → k ≡ cause 8 p (memories pool overflow) → k ≡ 0 → (d : Decided) → Decides d (place 8 p len) len
     → d .«too_long» ≡ false → allInside (length pool) (length overflow) (listed (d .moves)) ≡ true
 decided-inside p pool overflow len k e z d D t = inside-memories p (memories pool overflow) len k e z d D t
+
+-- ---- Take
+
+-- what a take copies is within the destination and within the kept bytes
+module _ (p : BufferPool) (O : Orderly 8 p) (destination : ℕ) where
+  pub record Bounded (n : ℕ) : Type 0 where
+    pub within-destination : n ≤ destination
+    pub within-kept : n ≤ p .kept
+
+  nothing : Bounded 0
+  nothing = record { within-destination = omega arith; within-kept = omega arith }
+
+  pooled-bounded : (spent : Bool) (mode : PoolMode) (n : ℕ) → Bounded (copiedLength (pooled spent 8 p mode n .answer))
+  pooled-bounded true mode n = nothing
+  pooled-bounded false mode n = nothing
+
+  take-bounded : (empty long spent : Bool) (mode : PoolMode) → ltb destination (frameOf mode p .length) ≡ long → InMode 8 mode p (p .reserved)
+      → Bounded (copiedLength (takeOn empty long spent mode 8 p .answer))
+  unfolding takeOn
+  take-bounded true long spent Back e I = nothing
+  take-bounded true long spent (Front f) e I = nothing
+  take-bounded true long spent Alloc e I = nothing
+  take-bounded false long spent Back e I = pooled-bounded spent Back _
+  take-bounded false long spent (Front f) e I = pooled-bounded spent _ _
+  take-bounded false true spent Alloc e I = nothing
+  take-bounded false false spent Alloc e I =
+      record { within-destination = omega (arith, ltb-false destination (p .cursor) e); within-kept = omega (arith, I .fits) }
+
+  pub copy-bounded : Bounded (copiedLength (takeStep 8 p destination .answer))
+  unfolding takeStep
+  copy-bounded = take-bounded (eqb (frameOf (p .mode) p .length) 0) _ (leb mostSerials (p .given)) (p .mode) refl (O .in-mode)
+
+copies : (p : BufferPool) (pool overflow destination : List ℕ) (c : Called) (n : ℕ) → (n ≡ 0 → ⊥) → (filled left : List ℕ)
+    → filled ≡ copied overflow 0 n destination 0 → left ≡ moved overflow n (p .kept - n) 0
+    → outcome c (memories pool left) filled ≡ copiedOut c p (memories pool overflow) destination n
+unfolding copiedOut takeMoves perform act
+copies p pool overflow destination c zero y filled left h i = absurd (y refl)
+copies p pool overflow destination c (suc n) y filled left h i = rw (h, i)
+
+module _ (p : BufferPool) (pool overflow destination : List ℕ) (k : ℕ) (e : k ≡ cause 8 p (memories pool overflow)) where
+  pub take-turned : (k ≡ 0 → ⊥) → (c : Called) → c ≡ refused p k → outcome c (memories pool overflow) destination ≡ take 8 p (memories pool overflow) destination
+  unfolding take
+  take-turned n c f = turned-away p (memories pool overflow) k e n destination c _ f
+
+  module _ (z : k ≡ 0) (c : Called) (f : c ≡ takeStep 8 p (length destination)) (n : ℕ) (g : n ≡ copiedLength (c .answer)) where
+    length-is : n ≡ copiedLength (takeStep 8 p (length destination) .answer)
+    length-is = g ∙ ap (λ (x : Called). copiedLength (x .answer)) f
+
+    through-take : (o : Outcome) → o ≡ copiedOut c p (memories pool overflow) destination n → o ≡ take 8 p (memories pool overflow) destination
+    unfolding take
+    through-take o h = let-through p (memories pool overflow) k e z destination o _ (h ∙ rw (length-is, f))
+
+    pub take-nothing : n ≡ 0 → outcome c (memories pool overflow) destination ≡ take 8 p (memories pool overflow) destination
+    unfolding copiedOut takeMoves perform
+    take-nothing y = through-take _ (rw y (ap (outcome c (memories pool overflow)) (copied-none overflow 0 destination 0)))
+
+    bounded : Bounded p (through-orderly p (memories pool overflow) k e z) (length destination) n
+    bounded = rw length-is (copy-bounded p (through-orderly p (memories pool overflow) k e z) (length destination))
+
+    pub copied-kept : n ≤ p .kept
+    copied-kept = bounded .within-kept
+
+    pub copied-to : n ≤ length destination
+    copied-to = bounded .within-destination
+
+    pub kept-in : p .kept ≤ length overflow
+    kept-in = omega (arith, through-orderly p (memories pool overflow) k e z .kept-within, through-overflow p (memories pool overflow) k e z)
+
+    pub take-copies : (n ≡ 0 → ⊥) → (filled left : List ℕ) → filled ≡ copied overflow 0 n destination 0 → left ≡ moved overflow n (p .kept - n) 0
+        → outcome c (memories pool left) filled ≡ take 8 p (memories pool overflow) destination
+    take-copies y filled left h i = through-take _ (copies p pool overflow destination c n y filled left h i)

@@ -2,7 +2,9 @@
 // own), and gives the record back with the answer; a refused call changes nothing.
 ghost use mathlib.Core.Path.{_≡_};
 ghost use mathlib.Core.List.{[]};
-ghost use Prim.Native.Nat.{_+_, _≤_};
+ghost use Prim.Native.Nat.{_+_, _-_, _≤_};
+ghost use lib.ListN.{length};
+ghost use Rattle.laws.specs.Lists.{copied, moved};
 ghost use Rattle.buffer_pool.specs.Moves.{memories};
 ghost use Rattle.buffer_pool.specs.Steps as steps;
 ghost use Rattle.buffer_pool.specs.Calls as spec;
@@ -46,6 +48,33 @@ pub(crate) fn reservation(p: BufferPool) -> Place
         start: frame.start + frame.length,
         length: p.reserved,
     }
+}
+
+// How many bytes of the overflow an answer says to copy.
+fn copied_length(answer: Answer) -> u64
+    ensures { λ r. ⌜ r ≡ steps.copiedLength answer ⌝ }
+{
+    match answer {
+        Answer::Done => 0,
+        Answer::Reserved(_, _) => 0,
+        Answer::Framed(_) => 0,
+        Answer::Taken(_) => 0,
+        Answer::Copied(n) => n,
+        Answer::Refused(_) => 0,
+    }
+}
+
+// The first `n` of the `kept` bytes of the overflow go to the destination's start, and the bytes after them down to 0: the
+// Rust's `split_off`.
+fn copy_out(overflow: &mut [u8], destination: &mut [u8], n: u64, kept: u64)
+    requires { ⌜ (n ≤ length (now destination)) × (n ≤ kept) × (kept ≤ length (now overflow)) ⌝ }
+    ensures { λ _. ⌜ now (destination .exit) ≡ copied (now (overflow .entry)) 0 n (now (destination .entry)) 0 ⌝ }
+    ensures { λ _. ⌜ now (overflow .exit) ≡ moved (now (overflow .entry)) n (kept - n) 0 ⌝ }
+{
+    let first = n as usize;
+    let rest = (kept - n) as usize;
+    copy_between(overflow, 0, first, destination, 0);
+    copy_within(overflow, first, rest, 0);
 }
 
 impl BufferPool {
@@ -113,6 +142,26 @@ impl BufferPool {
             return steps::refused(self, number);
         }
         steps::truncate_step(self, n)
+    }
+
+    // The frame is finished: gives the handle of a slice of the pool, or copies a frame of the overflow to the start of
+    // `destination` and gives its length; an empty frame gives length 0. Refuses with 1, 2, with 6 if a frame of the overflow is
+    // longer than `destination`, and with 8 if all serials are given.
+    pub fn take(self, pool: &[u8], overflow: &mut [u8], destination: &mut [u8]) -> Called
+        ensures { λ r. ⌜ spec.outcome r (memories (now (pool .entry)) (now (overflow .exit))) (now (destination .exit)) ≡ spec.take 8 self (memories (now (pool .entry)) (now (overflow .entry))) (now (destination .entry)) ⌝ }
+    {
+        let number = guard(self, pool, overflow);
+        if number != 0 {
+            return steps::refused(self, number);
+        }
+        let taken = steps::take_step(self, destination.len() as u64);
+        let answer = taken.answer;
+        let n = copied_length(answer);
+        if n == 0 {
+            return taken;
+        }
+        copy_out(overflow, destination, n, self.kept);
+        taken
     }
 
     // The slot of the handle is free again. Refuses with 1, 2, and with 7 if the handle names no live slice.

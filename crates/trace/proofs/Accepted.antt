@@ -1,0 +1,91 @@
+-- What is known of an accepted file: each clause of its header, that every event is good, and that the answer's counts are
+-- those of its content. Assumes nothing.
+use mathlib.Core.Path.{_≡_, refl, _∙_}
+use mathlib.Core.Bool.{Bool, true, false}
+use mathlib.Core.List.{List}
+use Prim.Native.Nat.{ℕ, zero, suc, _+_, _≤_}
+use native.Mathlib.Omega.{arith}
+use borrow.Author.Tests.{leb-true, eqb-true, le-leb, eq-eqb}
+use lib.ListN.{length, drop, length-drop}
+use Rattle.laws.specs.Tests.{pick}
+use Rattle.laws.proofs.Tests.{both-true, both, leb-and, eqb-and}
+use Rattle.trace.specs.declared.Header.{Header}
+use Rattle.trace.specs.declared.Answer.the-variants.{Trace}
+use Rattle.trace.specs.Trace.{headerLength, sizeLimit, fileLimit, eventPlace, capacityOf, overflowOf, eventCount, eventOffset, byteCount, byteOffset, complete, sized, inOrder, ended, headed, headerOf, goodAt, firstBad, answerOn, reading}
+use Rattle.trace.specs.Content.{content, headerFor}
+use Rattle.trace.proofs.ReadLaws.{length-events}
+
+-- the clauses of a right header
+pub record Headed (file : List ℕ) : Type 0 where
+  pub whole : headerLength ≤ length file
+  pub capacity-within : capacityOf file ≤ sizeLimit
+  pub overflow-within : overflowOf file ≤ sizeLimit
+  pub events-first : eventOffset file ≡ headerLength
+  pub bytes-next : byteOffset file ≡ eventPlace (eventCount file)
+  pub bytes-last : length file ≡ byteOffset file + byteCount file
+  pub within : length file ≤ fileLimit
+
+-- a file is accepted, with its header's numbers, only if the header is right and no event is bad
+pub accepted-only : (right : Bool) (bad : ℕ) (x h : Header) → answerOn right bad x ≡ Trace h → (right ≡ true) × (bad ≡ 0) × (x ≡ h)
+unfolding answerOn
+accepted-only false bad x h e = let z : _≡_ {A = ℕ} 0 1 = cc in absurd (omega arith)
+accepted-only true zero x h e = (refl, refl, cc)
+accepted-only true (suc n) x h e = let z : _≡_ {A = ℕ} 0 1 = cc in absurd (omega arith)
+
+module _ (file : List ℕ) where
+  pub headed-use : headed file ≡ true → Headed file
+  unfolding headed complete sized inOrder ended
+  headed-use e =
+      let whole = leb-and headerLength (length file) e in
+      let sizes = both-true (sized file) _ (whole .1) in
+      let capacity = leb-and (capacityOf file) sizeLimit (sizes .0) in
+      let order = both-true (inOrder file) _ (sizes .1) in
+      let next = eqb-and (byteOffset file) (eventPlace (eventCount file)) (order .0) in
+      let long = leb-and (length file) fileLimit (order .1) in
+      record {
+        whole = whole .0;
+        capacity-within = capacity .0;
+        overflow-within = leb-true (overflowOf file) sizeLimit (capacity .1);
+        events-first = eqb-true (eventOffset file) headerLength (next .1);
+        bytes-next = next .0;
+        bytes-last = eqb-true (length file) (byteOffset file + byteCount file) (long .1);
+        within = long .0;
+      }
+
+  pub headed-make : Headed file → headed file ≡ true
+  unfolding headed complete sized inOrder ended
+  headed-make h =
+      both (le-leb headerLength (length file) (h .whole))
+      (both
+      (both (le-leb (capacityOf file) sizeLimit (h .capacity-within)) (le-leb (overflowOf file) sizeLimit (h .overflow-within)))
+      (both
+      (both (eq-eqb (byteOffset file) (eventPlace (eventCount file)) (h .bytes-next)) (eq-eqb (eventOffset file) headerLength (h .events-first)))
+      (both (le-leb (length file) fileLimit (h .within)) (eq-eqb (length file) (byteOffset file + byteCount file) (h .bytes-last)))))
+
+  -- where none of the n events from index i on is bad, the first is good, and none after it is bad
+  pub good-first : (i n : ℕ) → firstBad file i (suc n) ≡ 0 → (goodAt file i ≡ true) × (firstBad file (suc i) n ≡ 0)
+  unfolding firstBad
+  good-first i n e = go (goodAt file i) refl e
+    where
+      go : (g : Bool) → goodAt file i ≡ g → pick g (firstBad file (suc i) n) (suc i) ≡ 0 → (goodAt file i ≡ true) × (firstBad file (suc i) n ≡ 0)
+      go true p q = (p, q)
+      go false p q = absurd (omega arith)
+
+  -- an accepted file: its header is right, and no event is bad
+  pub accepted-use : (h : Header) → reading file ≡ Trace h → (headed file ≡ true) × (firstBad file 0 (eventCount file) ≡ 0) × (headerOf file ≡ h)
+  unfolding reading
+  accepted-use h e = accepted-only (headed file) (firstBad file 0 (eventCount file)) (headerOf file) h e
+
+  -- the header's counts are those of the content
+  pub header-same : Headed file → headerFor (content file) ≡ headerOf file
+  unfolding content
+  header-same h =
+      let last = h .bytes-last in
+      let count = length-events file 0 (eventCount file) in
+      let rest : length (drop (byteOffset file) file) ≡ byteCount file = length-drop (byteOffset file) file ∙ omega arith in
+      rw (count, rest) refl
+
+  pub header-content : (h : Header) → reading file ≡ Trace h → headerFor (content file) ≡ h
+  header-content h e =
+      let facts = accepted-use h e in
+      header-same (headed-use (facts .0)) ∙ facts .2

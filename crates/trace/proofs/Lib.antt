@@ -1,0 +1,10 @@
+pub mod NumberLaws
+pub mod HeaderLaws
+pub mod EventLaws
+pub mod ReadLaws
+pub mod LowBytes
+pub mod Accepted
+pub mod ReadWritten
+pub mod WrittenRead
+pub mod Inverse
+pub mod Cases

@@ -1,0 +1,19 @@
+-- `is_right` meets its contract. Each return knows the tests of the kind on the way to it. Assumes nothing.
+use Rattle.trace.proofs.EventLaws.{kind-low, kind-high, take-zero, other-kind}
+use Rattle.trace.proofs.is_right.Statement.{statement}
+use Rattle.trace.proofs.is_right.Tie as tie
+
+returns : tie.Need-returns
+returns c = search kind-low
+
+returns-2 : tie.Need-returns-2
+returns-2 c = search kind-high
+
+returns-3 : tie.Need-returns-3
+returns-3 c = search take-zero
+
+returns-4 : tie.Need-returns-4
+returns-4 c = search other-kind
+
+pub is-right-spec : {M : Type 1} → statement M
+is-right-spec = tie.close (tie.spec returns returns-2 returns-3 returns-4)
