@@ -1,0 +1,81 @@
+-- The book of a short list and what the pool shows beside it, by computing: a pool of 4 bytes and an overflow of 4, at 8
+-- slots. Assumes nothing.
+use mathlib.Core.Path.{_≡_, refl}
+use mathlib.Core.List.{List, [], _∷_, map}
+use Rattle.buffer_pool.specs.declared.buffer_pool.Memory.the-variants.{Pool, Overflow}
+use Rattle.buffer_pool.specs.declared.buffer_pool.Answer.{Answer}
+use Rattle.buffer_pool.specs.declared.buffer_pool.Answer.the-variants.{Done, Reserved, Framed, Taken, Copied, Refused}
+use Rattle.buffer_pool.specs.declared.slice.Handle.{Handle}
+use Rattle.buffer_pool.specs.Record.{slotCount}
+use Rattle.buffer_pool.specs.Moves.{memories}
+use Rattle.buffer_pool.specs.Steps.{at, frame, reservation}
+use Rattle.buffer_pool.specs.Calls.{bytesAt}
+use Rattle.buffer_pool.specs.Computing.{definitions}
+use Rattle.book.specs.Events.{Reservation, Frame, Slice, Reserve, Commit, Truncate, Take, Release, Look, Event, Own, Other, Write, State, opened, happens, next}
+use Rattle.book.specs.Book.{Pair, pair, Book, book, emptyBook, sameHandle, without, rewritten, noted}
+use Rattle.book.specs.Demand3.{sliceOf}
+
+-- an entry, its answer, the book after it, and frame, reservation and slices as shown then
+record Line : Type 0 where
+  entry : Event
+  answer : Answer
+  noted : Book
+  shown : Book
+
+abbrev line : Event → Answer → Book → Line
+line e a b = record { entry = e; answer = a; noted = b; shown = b }
+
+abbrev shownBeside : State → Book → Book
+shownBeside s b =
+    book (bytesAt (s .lent) (frame (s .pool))) (bytesAt (s .lent) (reservation (s .pool)))
+    (map (λ (x : Pair). pair (x .handle) (bytesAt (s .lent) (sliceOf x))) (b .pairs))
+
+told : State → Book → List Event → List Line
+told s b [] = []
+told s b (e ∷ es) =
+    record {
+      entry = e;
+      answer = happens slotCount s e .call .answer;
+      noted = noted slotCount s b e;
+      shown = shownBeside (next slotCount s e) (noted slotCount s b e);
+    }
+    ∷ told (next slotCount s e) (noted slotCount s b e) es
+
+-- the handle of the first take, and an invented one of the same slot
+abbrev first : Handle
+first = record { slot = 1; start = 0; length = 2; serial = 1 }
+
+abbrev invented : Handle
+invented = record { slot = 1; start = 0; length = 2; serial = 2 }
+
+lines : List Line
+lines =
+    line (Own (Reserve 3)) (Reserved (at Pool 0 3) 0) (book [] (0 ∷ 0 ∷ 0 ∷ []) [])
+    ∷ line (Write Reservation 1 7) Done (book [] (0 ∷ 7 ∷ 0 ∷ []) [])
+    ∷ line (Own (Commit 4)) (Refused 5) (book [] (0 ∷ 7 ∷ 0 ∷ []) [])
+    ∷ line (Own (Commit 2)) (Framed (at Pool 0 2)) (book (0 ∷ 7 ∷ []) [] [])
+    ∷ line (Own (Take [])) (Taken first) (book [] [] (pair first (0 ∷ 7 ∷ []) ∷ []))
+    ∷ line (Own (Reserve 3)) (Reserved (at Overflow 0 3) 1) (book [] (0 ∷ 0 ∷ 0 ∷ []) (pair first (0 ∷ 7 ∷ []) ∷ []))
+    ∷ line (Write (Slice first) 0 6) Done (book [] (0 ∷ 0 ∷ 0 ∷ []) (pair first (6 ∷ 7 ∷ []) ∷ []))
+    ∷ line (Write (Slice invented) 0 8) Done (book [] (0 ∷ 0 ∷ 0 ∷ []) (pair first (6 ∷ 7 ∷ []) ∷ []))
+    ∷ line (Write Reservation 0 5) Done (book [] (5 ∷ 0 ∷ 0 ∷ []) (pair first (6 ∷ 7 ∷ []) ∷ []))
+    ∷ line (Own (Commit 3)) (Framed (at Overflow 0 3)) (book (5 ∷ 0 ∷ 0 ∷ []) [] (pair first (6 ∷ 7 ∷ []) ∷ []))
+    ∷ line (Own (Truncate 1)) (Framed (at Overflow 0 1)) (book (5 ∷ []) [] (pair first (6 ∷ 7 ∷ []) ∷ []))
+    ∷ line (Write Frame 1 9) Done (book (5 ∷ []) [] (pair first (6 ∷ 7 ∷ []) ∷ []))
+    ∷ line (Own (Take [])) (Refused 6) (book (5 ∷ []) [] (pair first (6 ∷ 7 ∷ []) ∷ []))
+    ∷ line (Own (Take (1 ∷ 2 ∷ []))) (Copied 1) (book [] [] (pair first (6 ∷ 7 ∷ []) ∷ []))
+    ∷ line (Own (Look (Slice first))) (Framed (at Pool 0 2)) (book [] [] (pair first (6 ∷ 7 ∷ []) ∷ []))
+    ∷ line (Own (Release invented)) (Refused 7) (book [] [] (pair first (6 ∷ 7 ∷ []) ∷ []))
+    ∷ line (Other (memories [] []) (Release first)) (Refused 2) (book [] [] (pair first (6 ∷ 7 ∷ []) ∷ []))
+    ∷ line (Own (Release first)) Done (book [] [] [])
+    ∷ line (Own (Release first)) (Refused 7) (book [] [] [])
+    ∷ line (Write (Slice first) 0 8) Done (book [] [] [])
+    ∷ []
+
+entries : List Line → List Event
+entries [] = []
+entries (l ∷ ls) = l .entry ∷ entries ls
+
+example : told (opened slotCount (memories (9 ∷ 9 ∷ 9 ∷ 9 ∷ []) (4 ∷ 3 ∷ 2 ∷ 1 ∷ []))) emptyBook (entries lines) ≡ lines
+unfolding told entries lines definitions sameHandle without rewritten
+example = refl

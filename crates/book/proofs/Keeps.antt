@@ -1,0 +1,202 @@
+-- What agrees is kept as demand 3 says it, a new pool agrees with the empty book, and so, entry by entry, does every list.
+-- Assumes nothing.
+use mathlib.Core.Path.{_≡_, refl, sym, ap, _∙_, subst}
+use mathlib.Core.Bool.{Bool, true, false, _||_}
+use mathlib.Core.List.{List, [], _∷_, _++_}
+use mathlib.Core.Logic.{inl, inr}
+use Prim.Native.Nat.{ℕ, _+_, _≤_, _<_}
+use native.Mathlib.Nat.{zero-add}
+use native.Mathlib.Omega.{arith}
+use borrow.Author.Tests.{ltb-false, le-ltb, eqb-true}
+use lib.Dec.{leb, ltb, eqb}
+use lib.ListN.{length, drop, replicate, length-replicate}
+use Rattle.laws.specs.Tests.{pick}
+use Rattle.laws.specs.Lists.{part, copied}
+use Rattle.laws.proofs.Tests.{no-true, either-false}
+use Rattle.laws.proofs.Lists.{part-none, length-part}
+use Rattle.buffer_pool.specs.declared.buffer_pool.BufferPool.{BufferPool}
+use Rattle.buffer_pool.specs.declared.buffer_pool.PoolMode.{PoolMode}
+use Rattle.buffer_pool.specs.declared.buffer_pool.PoolMode.the-variants.{Back, Front, Alloc}
+use Rattle.buffer_pool.specs.declared.buffer_pool.Answer.{Answer}
+use Rattle.buffer_pool.specs.declared.buffer_pool.Answer.the-variants.{Done, Reserved, Framed, Taken, Copied, Refused}
+use Rattle.buffer_pool.specs.declared.buffer_pool.Called.{Called}
+use Rattle.buffer_pool.specs.declared.slice.Handle.{Handle}
+use Rattle.buffer_pool.specs.Record.{byteLimit, newRecord}
+use Rattle.buffer_pool.specs.Moves.{Memories, memories}
+use Rattle.buffer_pool.specs.Soundness.{sound}
+use Rattle.buffer_pool.specs.Sound.{InMode, Orderly}
+use Rattle.buffer_pool.specs.Steps.{refusal, called, frameOf, frame, mostSerials, takeOn, takeStep, copiedLength}
+use Rattle.buffer_pool.specs.Calls.{Outcome, outcome, new, copiedOut, shown, hidden, memoryAt, bytesAt}
+use Rattle.buffer_pool.proofs.Soundness.{sound-use}
+use Rattle.buffer_pool.proofs.Order.{none-held}
+use Rattle.buffer_pool.proofs.Unchanged.{fixed}
+use Rattle.buffer_pool.proofs.Ranges.{bytesFor, orderly-inside}
+use Rattle.buffer_pool.proofs.SoundKept.{sound-new}
+use Rattle.book.specs.Events.{Reservation, Frame, Slice, Take, Event, State, opened, next}
+use Rattle.book.specs.Book.{Pair, Book, emptyBook, noted}
+use Rattle.book.specs.Demand3.{Member, sliceOf, Apart, AllApart, Shows, Kept, Always}
+use Rattle.book.proofs.Places.{off-apart}
+use Rattle.book.proofs.Slices.{Named, names-make, slice-end, slice-frame, slice-offer, slice-slice}
+use Rattle.book.proofs.Pairs.{Once}
+use Rattle.book.proofs.Plain.{plainTake, plain, call-other}
+use Rattle.book.proofs.Agrees.{Agrees, agrees-tested, agrees-view, agrees-call, empty-at, next-agrees}
+
+abbrev isCopied : Answer → Bool
+isCopied Done = false
+isCopied (Reserved p changes) = false
+isCopied (Framed p) = false
+isCopied (Taken h) = false
+isCopied (Copied n) = true
+isCopied (Refused number) = false
+
+not-copied : {a : Answer} {n : ℕ} → isCopied a ≡ false → a ≡ Copied n → ⊥
+not-copied f e = no-true (sym f ∙ ap isCopied e)
+
+module _ (w : ℕ) (s : State) (b : Book) (G : Agrees w (s .pool) (s .lent) b) where
+  abbrev r : BufferPool
+  r = s .pool
+
+  abbrev m : Memories
+  m = s .lent
+
+  abbrev S : Orderly w r
+  S = G .sound .orderly
+
+  -- ---- The views
+
+  room : (mode : PoolMode) → bytesFor mode r ≤ length (memoryAt (frameOf mode r .memory) m)
+  room Back = omega (arith, G .sized .pool-is)
+  room (Front f) = omega (arith, G .sized .pool-is)
+  room Alloc = omega (arith, G .sized .overflow-is, S .kept-within)
+
+  ends : frame r .start + frame r .length + r .reserved ≤ length (memoryAt (frame r .memory) m)
+  ends = omega (arith, orderly-inside w r S .gathered, room (r .mode))
+
+  slice-shows : (x : Pair) → Member x (b .pairs) → Shows w s (Slice (x .handle)) (sliceOf x) (x .bytes)
+  slice-shows x i =
+      let N = G .booked .named x i in
+      record {
+        view =
+            agrees-view G (Slice (x .handle))
+            ∙ ap (λ (t : Bool). pick t (shown (sliceOf x)) (hidden 7)) (names-make w r (x .handle) N);
+        inside =
+            omega (
+              arith,
+              slice-end w r S (x .handle) N,
+              S .ready .slots .inside (x .handle .slot) (N .held),
+              G .sized .pool-is,
+            );
+        holds = G .booked .shows x i;
+      }
+
+  all-apart : (pairs : List Pair) → ((x : Pair) → Member x pairs → Named w (fixed r) (x .handle)) → Once pairs → AllApart pairs
+  all-apart [] named O = tt
+  all-apart (x ∷ pairs) named O = (apart, all-apart pairs (λ y i. named y (inr i)) (O .1))
+    where
+      apart : (y : Pair) → Member y pairs → Apart (sliceOf x) (sliceOf y)
+      apart y i =
+          off-apart
+          (slice-slice w r S (x .handle) (y .handle) (named x (inl refl)) (named y (inr i))
+          (λ e. O .0 y i (ap (λ (h : Handle). h .slot) e)))
+
+  -- ---- A copied frame
+
+  Copy : List ℕ → ℕ → List ℕ → Type 0
+  Copy destination n after = (n ≡ length (b .F)) × (after ≡ b .F ++ drop n destination)
+
+  copies : (destination : List ℕ) (n : ℕ) → plain w r m (Take destination) .call .answer ≡ Copied n
+      → Copy destination n (plain w r m (Take destination) .destination)
+  unfolding Copy takeStep takeOn copiedOut copied bytesAt part
+  copies destination n =
+      go (eqb (frame r .length) 0) (ltb (length destination) (frame r .length)) (leb mostSerials (r .given)) (r .mode) refl
+      (S .in-mode) (G .gathered)
+    where
+      go : (z long spent : Bool) (mode : PoolMode) → eqb (frameOf mode r .length) 0 ≡ z → InMode w mode r (r .reserved)
+          → bytesAt m (frameOf mode r) ≡ b .F → takeOn z long spent mode w r .answer ≡ Copied n
+          → Copy destination n (plainTake r m destination (takeOn z long spent mode w r) .destination)
+      go true long spent mode e I h a =
+          let none : b .F ≡ [] = sym h ∙ empty-at m (frameOf mode r) (eqb-true (frameOf mode r .length) 0 e) in
+          let count : 0 ≡ n = ap copiedLength a in
+          rw (none, ← count) (refl, refl)
+      go false long true Back e I h a = absurd (not-copied refl a)
+      go false long false Back e I h a = absurd (not-copied refl a)
+      go false long true (Front f) e I h a = absurd (not-copied refl a)
+      go false long false (Front f) e I h a = absurd (not-copied refl a)
+      go false true spent Alloc e I h a = absurd (not-copied refl a)
+      go false false spent Alloc e I h a =
+          let count : r .cursor ≡ n = ap copiedLength a in
+          let within : 0 + r .cursor ≤ length (m .overflow) = omega (arith, I .fits, S .kept-within, G .sized .overflow-is) in (
+            sym count ∙ sym (length-part (m .overflow) 0 (r .cursor) within) ∙ ap length h,
+            rw (← count, zero-add) (ap (λ (x : List ℕ). x ++ drop (r .cursor) destination) h),
+          )
+
+  -- ---- What demand 3 says of one moment
+
+  pub agrees-kept : Kept w s b
+  unfolding Copy
+  agrees-kept =
+      record {
+        live = λ x i. names-make w r (x .handle) (G .booked .named x i);
+        booked = G .booked .known;
+        slices = slice-shows;
+        gathered = record { view = agrees-view G Frame; inside = omega (arith, ends); holds = G .gathered };
+        offered = record { view = agrees-view G Reservation; inside = ends; holds = G .offered };
+        apart = all-apart (b .pairs) (G .booked .named) (G .booked .once);
+        apart-frame = λ x i. off-apart (slice-frame w r S (x .handle) (G .booked .named x i));
+        apart-reservation = λ x i. off-apart (slice-offer w r S (x .handle) (G .booked .named x i));
+        copied = λ destination n.
+            subst (λ (o : Outcome). o .call .answer ≡ Copied n → Copy destination n (o .destination))
+            (sym (agrees-call G (Take destination))) (copies destination n);
+        refused-other = λ x c f. ap (λ (o : Called). o .answer) (call-other w r x (agrees-tested G) f c);
+      }
+
+-- ---- A new pool
+
+module _ (w : ℕ) (m : Memories) where
+  -- cause 3
+  abbrev pub long : Bool
+  long = ltb byteLimit (length (m .pool)) || ltb byteLimit (length (m .overflow))
+
+  abbrev pub newOn : Bool → Outcome
+  newOn t =
+      pick t (outcome (called (newRecord w 0 0) (Refused 3)) m [])
+      (outcome (called (newRecord w (length (m .pool)) (length (m .overflow))) Done)
+      (memories (replicate (length (m .pool)) 0) (m .overflow)) [])
+
+  pub new-agrees : 0 < w → refusal (new w m .call .answer) ≡ 0 → Agrees w (opened w m .pool) (opened w m .lent) emptyBook
+  unfolding new refusal bytesAt
+  new-agrees h = go long refl
+    where
+      go : (t : Bool) → long ≡ t → refusal (newOn t .call .answer) ≡ 0
+          → Agrees w (newOn t .call .pool) (newOn t .memory) emptyBook
+      go true e u = absurd (omega arith)
+      go false e u =
+          let x = either-false (ltb byteLimit (length (m .pool))) _ e in
+          record {
+            sound =
+                sound-use w _
+                (sound-new w (length (m .pool)) (length (m .overflow)) h (ltb-false byteLimit (length (m .pool)) (x .0))
+                (ltb-false byteLimit (length (m .overflow)) (x .1)));
+            sized = record { pool-is = length-replicate (length (m .pool)) 0; overflow-is = refl };
+            gathered = part-none (replicate (length (m .pool)) 0) 0;
+            offered = part-none (replicate (length (m .pool)) 0) (0 + 0);
+            booked =
+                record {
+                  named = λ y i. absurd i;
+                  shows = λ y i. absurd i;
+                  known = λ p t. absurd (none-held w refl t);
+                  once = tt;
+                };
+          }
+
+  -- memories within the limit are not refused
+  pub new-unrefused : length (m .pool) ≤ byteLimit → length (m .overflow) ≤ byteLimit → refusal (new w m .call .answer) ≡ 0
+  unfolding new refusal
+  new-unrefused p o = rw (le-ltb byteLimit (length (m .pool)) p, le-ltb byteLimit (length (m .overflow)) o)
+
+-- ---- Every list
+
+pub always : (w : ℕ) (es : List Event) (s : State) (b : Book) → Agrees w (s .pool) (s .lent) b → Always w s b es
+unfolding Always
+always w [] s b G = agrees-kept w s b G
+always w (e ∷ es) s b G = (agrees-kept w s b G, always w es (next w s e) (noted w s b e) (next-agrees w s b G e))

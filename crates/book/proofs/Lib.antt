@@ -1,0 +1,11 @@
+pub mod Carried
+pub mod Carries
+pub mod Places
+pub mod Slices
+pub mod Pairs
+pub mod Plain
+pub mod Agrees
+pub mod Keeps
+pub mod Same
+pub mod Demand3
+pub mod Example

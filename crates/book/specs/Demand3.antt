@@ -1,0 +1,124 @@
+-- The terms of demand 3's two statements, `book-kept` and `alike` (proofs/Demand3.antt). w is the slot count.
+use mathlib.Core.Path.{_≡_}
+use mathlib.Core.Bool.{true}
+use mathlib.Core.List.{List, [], _∷_, _++_}
+use mathlib.Core.Logic.{_⊎_}
+use Prim.Native.Nat.{ℕ, _+_, _≤_, _<_}
+use lib.ListN.{length, drop, replicate}
+use Rattle.buffer_pool.specs.declared.buffer_pool.BufferPool.{BufferPool}
+use Rattle.buffer_pool.specs.declared.buffer_pool.Memory.the-variants.{Pool}
+use Rattle.buffer_pool.specs.declared.buffer_pool.Place.{Place}
+use Rattle.buffer_pool.specs.declared.buffer_pool.Answer.{Answer}
+use Rattle.buffer_pool.specs.declared.buffer_pool.Answer.the-variants.{Copied, Refused}
+use Rattle.buffer_pool.specs.Moves.{Memories, memories}
+use Rattle.buffer_pool.specs.Sound.{Held}
+use Rattle.buffer_pool.specs.Steps.{at, frame, reservation, names}
+use Rattle.buffer_pool.specs.Calls.{Outcome, misfit, View, shown, frameView, reservationView, memoryAt, bytesAt}
+use Rattle.book.specs.Events.{Viewed, Reservation, Frame, Slice, Call, Reserve, Commit, Truncate, Take, Release, Look, Event, Own, Other, Write, State, viewOf, call, happens, next}
+use Rattle.book.specs.Book.{Pair, Book, noted}
+
+-- ---- The first part: the book is kept
+
+-- the pair is one of those of the book
+abbrev pub Member : Pair → List Pair → Type 0
+Member x [] = ⊥
+Member x (y ∷ pairs) = (x ≡ y) ⊎ Member x pairs
+
+-- the place of a handle's slice
+abbrev pub sliceOf : Pair → Place
+sliceOf x = at Pool (x .handle .start) (x .handle .length)
+
+-- byte i of the pool lies in the place
+abbrev pub Covers : Place → ℕ → Type 0
+Covers p i = (p .memory ≡ Pool) × (p .start ≤ i) × (i < p .start + p .length)
+
+-- "Apart: no pool byte in common."
+abbrev pub Apart : Place → Place → Type 0
+Apart p q = (i : ℕ) → Covers p i → Covers q i → ⊥
+
+-- each pair's slice apart from that of every pair after it
+abbrev pub AllApart : List Pair → Type 0
+AllApart [] = Unit
+AllApart (x ∷ pairs) = ((y : Pair) → Member y pairs → Apart (sliceOf x) (sliceOf y)) × AllApart pairs
+
+-- the view is not refused; it is of this place, which lies inside its memory and holds these bytes
+pub record Shows (w : ℕ) (s : State) (v : Viewed) (p : Place) (bytes : List ℕ) : Type 0 where
+  pub view : viewOf w (s .pool) (s .lent) v ≡ shown p
+  pub inside : p .start + p .length ≤ length (memoryAt (p .memory) (s .lent))
+  pub holds : bytesAt (s .lent) p ≡ bytes
+
+-- what holds of record, memories and book, before the first entry and after each
+pub record Kept (w : ℕ) (s : State) (b : Book) : Type 0 where
+  -- "Live: the handle is in the book": such a handle names a live slot, with that slot's start, length and serial, and every
+  -- live slot has its handle in the book
+  pub live : (x : Pair) → Member x (b .pairs) → names w (s .pool) (x .handle) ≡ true
+  pub booked : (p : ℕ) → Held w (s .pool .live) p → (x : Pair) × Member x (b .pairs) × (x .handle .slot ≡ p)
+  -- "every live pooled slice lies inside the pool .. and shows exactly the bytes document 01's book has for it"; "frame,
+  -- reservation .. show the book's bytes too"
+  pub slices : (x : Pair) → Member x (b .pairs) → Shows w s (Slice (x .handle)) (sliceOf x) (x .bytes)
+  pub gathered : Shows w s Frame (frame (s .pool)) (b .F)
+  pub offered : Shows w s Reservation (reservation (s .pool)) (b .R)
+  -- "apart from every other live slice, frame and reservation"
+  pub apart : AllApart (b .pairs)
+  pub apart-frame : (x : Pair) → Member x (b .pairs) → Apart (sliceOf x) (frame (s .pool))
+  pub apart-reservation : (x : Pair) → Member x (b .pairs) → Apart (sliceOf x) (reservation (s .pool))
+  -- "a copied frame, as found when its take returns, is F", whatever destination a take is lent now; "all other destination
+  -- bytes stay"
+  pub copied : (destination : List ℕ) (n : ℕ) → call w (s .pool) (s .lent) (Take destination) .call .answer ≡ Copied n
+      → (n ≡ length (b .F)) × (call w (s .pool) (s .lent) (Take destination) .destination ≡ b .F ++ drop n destination)
+  -- "a call lent memories of other lengths is refused with 2", whichever call is made now
+  pub refused-other : (m : Memories) (c : Call) → misfit (s .pool) m ≡ true → call w (s .pool) m c .call .answer ≡ Refused 2
+
+-- one statement over the whole list: `Kept` before the first entry and after each
+unfoldable pub Always : ℕ → State → Book → List Event → Type 0
+Always w s b [] = Kept w s b
+Always w s b (e ∷ es) = Kept w s b × Always w (next w s e) (noted w s b e) es
+
+-- ---- The second part: two lists alike
+
+-- bytes of this length, all 0
+abbrev pub blank : List ℕ → List ℕ
+blank bytes = replicate (length bytes) 0
+
+abbrev pub blankMemories : Memories → Memories
+blankMemories m = memories (blank (m .pool)) (blank (m .overflow))
+
+abbrev pub blankCall : Call → Call
+blankCall (Reserve len) = Reserve len
+blankCall (Commit n) = Commit n
+blankCall (Truncate n) = Truncate n
+blankCall (Take destination) = Take (blank destination)
+blankCall (Release h) = Release h
+blankCall (Look v) = Look v
+
+-- the calls of a list, every lent byte made 0 and the writes left out: two lists are "alike in calls, handles and lengths" if
+-- these are equal
+unfoldable pub calls : List Event → List Event
+calls [] = []
+calls (Own c ∷ es) = Own (blankCall c) ∷ calls es
+calls (Other m c ∷ es) = Other (blankMemories m) (blankCall c) ∷ calls es
+calls (Write v i byte ∷ es) = calls es
+
+-- what is seen at a call: its answer (refusal, place, handle with its serial, count of mode changes), the record it leaves
+-- (mode, live slots, their places and serials), and frame and reservation as viewed then
+pub record Seen : Type 0 where
+  pub answer : Answer
+  pub pool : BufferPool
+  pub frame : View
+  pub reservation : View
+
+abbrev pub seenAt : ℕ → Outcome → Seen
+seenAt w o =
+    record {
+      answer = o .call .answer;
+      pool = o .call .pool;
+      frame = frameView w (o .call .pool) (o .memory);
+      reservation = reservationView w (o .call .pool) (o .memory);
+    }
+
+-- what is seen "at every call" of a list
+unfoldable pub seen : ℕ → State → List Event → List Seen
+seen w s [] = []
+seen w s (Own c ∷ es) = seenAt w (happens w s (Own c)) ∷ seen w (next w s (Own c)) es
+seen w s (Other m c ∷ es) = seenAt w (happens w s (Other m c)) ∷ seen w (next w s (Other m c)) es
+seen w s (Write v i byte ∷ es) = seen w (next w s (Write v i byte)) es

@@ -1,0 +1,3 @@
+pub mod Events
+pub mod Book
+pub mod Demand3
