@@ -1,146 +1,332 @@
--- Our pool and the Rust's stay together over every sequence of calls and writes that we accept: each of them keeps that the
--- Rust's pool stands for our record and memories. Assumes nothing.
-use mathlib.Core.Path.{_≡_, refl, ap, _∙_, subst}
-use mathlib.Core.Bool.{Bool, true, false}
-use mathlib.Core.List.{List, [], _∷_}
-use Prim.Native.Nat.{ℕ, _+_}
+-- Over every sequence of calls and writes from a new pool, what our pool shows is what the Rust's shows: every event that we
+-- accept keeps the two joined and gives the same, a refused one leaves ours as it was, and joined pools show the same. Assumes
+-- nothing.
+use mathlib.Core.Path.{_≡_, refl, sym, ap, _∙_, subst}
+use mathlib.Core.Bool.{Bool, true, false, _||_}
+use mathlib.Core.List.{List, [], _∷_, map}
+use mathlib.Core.Logic.{_⊎_, inl, inr}
+use Prim.Native.Nat.{ℕ, zero, suc, _<_}
 use native.Mathlib.Omega.{arith}
+use borrow.Author.Tests.{ltb-false, le-ltb}
+use lib.Dec.{ltb, eqb}
 use lib.ListN.{length}
 use Rattle.laws.specs.Tests.{pick}
+use Rattle.laws.specs.Lists.{part}
+use Rattle.laws.proofs.Tests.{either-false, pick-cases}
 use Rattle.buffer_pool.specs.declared.slice.Handle.{Handle}
 use Rattle.buffer_pool.specs.declared.buffer_pool.BufferPool.{BufferPool}
-use Rattle.buffer_pool.specs.declared.buffer_pool.PoolMode.{PoolMode}
-use Rattle.buffer_pool.specs.declared.buffer_pool.PoolMode.the-variants.{Back, Front, Alloc}
-use Rattle.buffer_pool.specs.declared.buffer_pool.Memory.the-variants.{Pool}
 use Rattle.buffer_pool.specs.declared.buffer_pool.Place.{Place}
 use Rattle.buffer_pool.specs.declared.buffer_pool.Answer.{Answer}
 use Rattle.buffer_pool.specs.declared.buffer_pool.Answer.the-variants.{Done, Reserved, Framed, Taken, Copied, Refused}
+use Rattle.buffer_pool.specs.declared.buffer_pool.Called.{Called}
+use Rattle.buffer_pool.specs.Record.{byteLimit}
 use Rattle.buffer_pool.specs.Moves.{Memories}
-use Rattle.buffer_pool.specs.Sound.{InMode, Orderly}
-use Rattle.buffer_pool.specs.Steps.{at, frameOf, frame, reservation, names}
-use Rattle.buffer_pool.specs.Calls.{View, shown, hidden, guarded, new, reserve, frameView, reservationView, sliceView, written}
-use Rattle.buffer_pool.specs.Rust.{Run, done, with, RustPool, rust-new}
-use Rattle.buffer_pool.specs.AsRust.{rustOf, heapOf, Stands, Leaves, Unrefused, replyOf, rustWritten}
-use Rattle.buffer_pool.specs.Together.{Event, Reserve, Commit, Truncate, Take, Release, WriteFrame, WriteReservation, WriteSlice, Ours, left, step, number, steps, Accepted, rustFrameIn, rustFrame, rustReservation, rustStep, rustSteps}
-use Rattle.buffer_pool.proofs.RustCalls.{Works, unguarded, InKept, written-agrees, new-as-rust, reserve-as-rust, commit-as-rust, truncate-as-rust, take-as-rust, release-as-rust}
+use Rattle.buffer_pool.specs.Soundness.{sound}
+use Rattle.buffer_pool.specs.Steps.{refusal, reserveStep, commitStep, truncateStep, takeStep, names, releaseStep}
+use Rattle.buffer_pool.specs.Calls.{Outcome, View, new, reserve, commit, truncate, copiedOut, take as taken, release, written}
+use Rattle.buffer_pool.specs.Rust.{Run, done, with, RustPool}
+use Rattle.buffer_pool.specs.AsRust.{Stands, Unrefused, replyOf, sliceOf, rustWritten}
+use Rattle.buffer_pool.specs.Causes.{Part, Call, Reserve, Commit, Truncate, Take, Release, Look, outcomeOf, numberOf, Result}
+use Rattle.buffer_pool.specs.Together.{Event, Make, Write, Seen, Given, Nothing, Offer, Whole, Sliced, Viewed, Ours, ours, view, number, holding, without, letGo, heldAfter, step, givenBy, given, shownBy, unlessRefused, accepted, shows, Holder, Theirs, theirs, rustFrame, rustHolding, rustWithout, did, rustCall, rustStep, rustShows, ourStart, rustStart}
+use Rattle.buffer_pool.proofs.SoundKept.{sound-new, sound-kept, Reserve as ReserveStep, Commit as CommitStep, Truncate as TruncateStep, Take as TakeStep, Release as ReleaseStep}
+use Rattle.buffer_pool.proofs.RustCalls.{written-agrees, new-as-rust, reserve-as-rust, commit-as-rust, truncate-as-rust, take-as-rust, release-as-rust}
+use Rattle.buffer_pool.proofs.RefusedKeeps.{refused-keeps, refused-view}
+use Rattle.buffer_pool.proofs.OnlyForCause.{told-is}
+use Rattle.buffer_pool.proofs.Answers.{call-answers}
+use Rattle.buffer_pool.proofs.Handles.{Named, names-use, Holds, new-holds, reserve-holds, commit-holds, truncate-holds, take-holds, release-holds}
+use Rattle.buffer_pool.proofs.Joined.{holderOf, Joined, frame-place, joined-orderly, joined-fits, slice-part, part-seen, part-agrees, shown-agrees}
 
--- the pool alone of what a run leaves
-alone : {A : Type 0} {run : Run A} {value : RustPool → A} {P : RustPool → Type 0} (pool : A → RustPool) → ((p : RustPool) → pool (value p) ≡ p)
-    → Leaves run value P → Leaves (with run pool) (λ q. q) P
-alone {A} pool e L =
-    record { left = L .left; run-is = ap (λ (x : Run A). with x pool) (L .run-is) ∙ ap done (e (L .left)); holds = L .holds }
+-- ---- What the Rust gives, by our answer
 
-reply-left : (a : Answer) (p : RustPool) → replyOf a p .left ≡ p
-reply-left Done p = refl
-reply-left (Reserved place changes) p = refl
-reply-left (Framed place) p = refl
-reply-left (Taken h) p = refl
-reply-left (Copied n) p = refl
-reply-left (Refused n) p = refl
+offer-given : {a : Answer} {place : Place} {changes : ℕ} → a ≡ Reserved place changes → (q : RustPool) (held : List Holder)
+    → did (Offer (replyOf a q .writable) (replyOf a q .changes)) (replyOf a q .left) held ≡ did (givenBy a []) q held
+unfolding givenBy
+offer-given e q held =
+    subst
+    (λ (a : Answer). did (Offer (replyOf a q .writable) (replyOf a q .changes)) (replyOf a q .left) held ≡ did (givenBy a []) q held)
+    (sym e) refl
 
--- ---- A written byte
+frame-given : {a : Answer} {place : Place} → a ≡ Framed place → Whole place ≡ givenBy a []
+unfolding givenBy
+frame-given e = ap (λ (a : Answer). givenBy a []) (sym e)
 
-module _ (w : ℕ) (r : BufferPool) (m : Memories) (p : RustPool) (T : Stands r m p) where
-  -- where the Rust's frame and reservation lie
-  frame-place : rustFrame p ≡ frame r
-  frame-place = rw (T .mirrors .is) (go (r .mode))
-    where
-      go : (mode : PoolMode) → rustFrameIn mode (rustOf r (heapOf r m) (T .mirrors .own)) ≡ frameOf mode r
-      go Back = refl
-      go (Front f) = refl
-      go Alloc = refl
+slice-given : (a : Answer) (destination : List ℕ) → ((h : Handle) × (a ≡ Taken h)) ⊎ ((n : ℕ) × (a ≡ Copied n))
+    → Sliced (sliceOf a destination) ≡ givenBy a destination
+unfolding givenBy
+slice-given a destination (inl t) =
+    subst (λ (a : Answer). Sliced (sliceOf a destination) ≡ givenBy a destination) (sym (t .1)) refl
+slice-given a destination (inr t) =
+    subst (λ (a : Answer). Sliced (sliceOf a destination) ≡ givenBy a destination) (sym (t .1)) refl
 
-  reservation-place : rustReservation p ≡ reservation r
-  reservation-place =
-      ap (λ (f : Place). at (f .memory) (f .start + f .length) (p .reserved)) frame-place
-      ∙ ap (λ (q : RustPool). at (frame r .memory) (frame r .start + frame r .length) (q .reserved)) (T .mirrors .is)
+nothing-given : {a : Answer} → a ≡ Done → Nothing ≡ givenBy a []
+unfolding givenBy
+nothing-given e = ap (λ (a : Answer). givenBy a []) (sym e)
 
-  frame-kept : Orderly w r → InKept (frame r .memory) (frame r .start + frame r .length) (r .kept)
-  frame-kept O = go (r .mode) (O .in-mode)
-    where
-      go : (mode : PoolMode) → InMode w mode r (r .reserved)
-          → InKept (frameOf mode r .memory) (frameOf mode r .start + frameOf mode r .length) (r .kept)
-      go Back I = tt
-      go (Front f) I = tt
-      go Alloc I = omega (arith, I .fits)
+-- ---- The slices held
 
-  reservation-kept : Orderly w r → InKept (reservation r .memory) (reservation r .start + reservation r .length) (r .kept)
-  reservation-kept O = go (r .mode) (O .in-mode)
-    where
-      go : (mode : PoolMode) → InMode w mode r (r .reserved)
-          → InKept (frameOf mode r .memory) (frameOf mode r .start + frameOf mode r .length + r .reserved) (r .kept)
-      go Back I = tt
-      go (Front f) I = tt
-      go Alloc I = omega (arith, I .fits)
+taken-held : (a : Answer) (destination : List ℕ) (held : List Handle)
+    → rustHolding (sliceOf a destination) (map holderOf held) ≡ map holderOf (holding a held)
+taken-held Done destination held = refl
+taken-held (Reserved place changes) destination held = refl
+taken-held (Framed place) destination held = refl
+taken-held (Taken h) destination held = refl
+taken-held (Copied n) destination held = refl
+taken-held (Refused n) destination held = refl
 
-  -- through a view that is not refused, at the Rust's own place
-  write-agrees : (place rustPlace : Place) → rustPlace ≡ place → (Orderly w r → InKept (place .memory) (place .start + place .length) (r .kept))
-      → (v : View) → Works (λ (v : View). v .number) w r v (shown place) → (i byte : ℕ)
-      → Leaves (done (rustWritten p rustPlace i byte)) (λ q. q) (Stands r (written m (v .place) i byte))
-  write-agrees place rustPlace e k v W i byte =
+released-held : (slot : ℕ) (held : List Handle) → rustWithout slot (map holderOf held) ≡ map holderOf (without slot held)
+unfolding rustWithout without
+released-held slot [] = refl
+released-held slot (h ∷ held) = go (eqb (h .slot) slot) (released-held slot held)
+  where
+    go : (b : Bool) → rustWithout slot (map holderOf held) ≡ map holderOf (without slot held)
+        → pick b (rustWithout slot (map holderOf held)) (holderOf h ∷ rustWithout slot (map holderOf held))
+        ≡ map holderOf (pick b (without slot held) (h ∷ without slot held))
+    go true e = e
+    go false e = ap (λ (l : List Holder). holderOf h ∷ l) e
+
+module _ (w : ℕ) (s : Ours) (t : Theirs) (J : Joined w s t) where
+  abbrev r : BufferPool
+  r = s .pool
+
+  abbrev m : Memories
+  m = s .memory
+
+  abbrev p : RustPool
+  p = t .pool
+
+  -- ---- The events that we accept
+
+  -- the Rust gives what we give, and the pools stay joined
+  record Follows (e : Event) : Type 0 where
+    left : Theirs
+    run-is : rustStep w t e ≡ done (record { given = given w s e; left = left })
+    joined : Joined w (step w s e) left
+
+  look-follows : (part : Part) → numberOf w r m (Look part) ≡ 0 → Follows (Make (Look part))
+  unfolding numberOf outcomeOf rustStep rustCall step given
+  look-follows part u =
+      let A = part-agrees w s t J part (sym (told-is (view w s part .number)) ∙ u) in
       record {
-        left = rustWritten p rustPlace i byte;
-        run-is = refl;
-        holds =
-            subst (λ (x : View). Stands r (written m (x .place) i byte) (rustWritten p rustPlace i byte)) (W .is)
-            (rw e (written-agrees (W .orderly) T place i byte (k (W .orderly))));
+        left = t;
+        run-is =
+            rw (A .rust-is)
+            (ap (λ (x : Seen). done (did (Viewed x) p (t .held))) (part-seen w s t J part (A .at-place) (A .view-is) (A .kept)));
+        joined = J;
       }
 
-viewed : (w : ℕ) (r : BufferPool) (m : Memories) (v : View) → guarded w r m hidden v .number ≡ 0
-    → Works (λ (v : View). v .number) w r (guarded w r m hidden v) v
-viewed w r m v = unguarded (λ (v : View). v .number) hidden (λ n. refl) w r m v
+  write-follows : (part : Part) (i byte : ℕ) → view w s part .number ≡ 0 → Follows (Write part i byte)
+  unfolding rustStep step given
+  write-follows part i byte u =
+      let A = part-agrees w s t J part u in
+      record {
+        left = theirs (rustWritten p (A .at-place) i byte) (t .held);
+        run-is = rw (A .rust-is) refl;
+        joined =
+            record {
+              sound-is = J .sound-is;
+              stands =
+                  subst (λ (v : View). Stands r (written m (v .place) i byte) (rustWritten p (A .at-place) i byte)) (sym (A .view-is))
+                  (written-agrees (joined-orderly w s t J) (J .stands) (A .at-place) i byte (A .kept));
+              held-is = J .held-is;
+              holds = J .holds;
+            };
+      }
 
--- ---- The events
+  -- ---- The calls: each is its step
 
-abbrev Keeps : ℕ → Ours → RustPool → Event → Type 0
-Keeps w s p e = Stands (s .pool) (s .memory) p → number w s e ≡ 0
-    → Leaves (rustStep w p e) (λ q. q) (Stands (step w s e .pool) (step w s e .memory))
+  reserve-call : (len : ℕ) → outcomeOf w r m (Reserve len) .call ≡ reserveStep w r len
+  unfolding outcomeOf reserve
+  reserve-call len = rw (J .sound-is, joined-fits w s t J) refl
 
-slice-written : (w : ℕ) (s : Ours) (p : RustPool) (h : Handle) (i byte : ℕ) → Keeps w s p (WriteSlice h i byte)
-unfolding step number rustStep sliceView
-slice-written w s p h i byte T = go (names w (s .pool) h)
+  commit-call : (n : ℕ) → outcomeOf w r m (Commit n) .call ≡ commitStep r n
+  unfolding outcomeOf commit
+  commit-call n = rw (J .sound-is, joined-fits w s t J) refl
+
+  truncate-call : (n : ℕ) → outcomeOf w r m (Truncate n) .call ≡ truncateStep r n
+  unfolding outcomeOf truncate
+  truncate-call n = rw (J .sound-is, joined-fits w s t J) refl
+
+  take-call : (destination : List ℕ) → outcomeOf w r m (Take destination) .call ≡ takeStep w r (length destination)
+  unfolding outcomeOf taken copiedOut
+  take-call destination = rw (J .sound-is, joined-fits w s t J) refl
+
+  release-call : (h : Handle) → outcomeOf w r m (Release h) .call ≡ releaseStep w r h
+  unfolding outcomeOf release
+  release-call h = rw (J .sound-is, joined-fits w s t J) refl
+
+  -- and leaves the two joined, with these handles held after it
+  call-joined : (held : Called → List Handle) {c d : Called} {n : Memories} {q : RustPool} {holders : List Holder} → c ≡ d
+      → sound w (d .pool) ≡ true → Holds w (d .pool) (held d) → Stands (c .pool) n q → holders ≡ map holderOf (held c)
+      → Joined w (ours (c .pool) n (held c)) (theirs q holders)
+  call-joined held e a b T h =
+      record {
+        sound-is = subst (λ (c : Called). sound w (c .pool) ≡ true) (sym e) a;
+        stands = T;
+        held-is = h;
+        holds = subst (λ (c : Called). Holds w (c .pool) (held c)) (sym e) b;
+      }
+
+  reserve-follows : (len : ℕ) → numberOf w r m (Reserve len) ≡ 0 → Follows (Make (Reserve len))
+  unfolding numberOf outcomeOf Result rustStep rustCall step given
+  reserve-follows len u =
+      let L = reserve-as-rust w r m p (J .stands) 0 len u in
+      record {
+        left = theirs (L .left) (t .held);
+        run-is = rw (L .run-is) (ap done (offer-given (call-answers w r m (Reserve len) u .1) (L .left) (t .held)));
+        joined =
+            call-joined (λ c. s .held) (reserve-call len) (sound-kept w r (ReserveStep len) (J .sound-is))
+            (reserve-holds w r (s .held) (J .holds) len) (L .holds) (J .held-is);
+      }
+
+  commit-follows : (n : ℕ) → numberOf w r m (Commit n) ≡ 0 → Follows (Make (Commit n))
+  unfolding numberOf outcomeOf Result rustStep rustCall step given
+  commit-follows n u =
+      let L = commit-as-rust w r m p (J .stands) n u in
+      record {
+        left = theirs (L .left) (t .held);
+        run-is =
+            rw (L .run-is)
+            (ap (λ (g : Given). done (did g (L .left) (t .held)))
+            (ap Whole (frame-place _ _ (L .left) (L .holds)) ∙ frame-given (call-answers w r m (Commit n) u)));
+        joined =
+            call-joined (λ c. s .held) (commit-call n) (sound-kept w r (CommitStep n) (J .sound-is))
+            (commit-holds w r (s .held) (J .holds) n) (L .holds) (J .held-is);
+      }
+
+  truncate-follows : (n : ℕ) → numberOf w r m (Truncate n) ≡ 0 → Follows (Make (Truncate n))
+  unfolding numberOf outcomeOf Result rustStep rustCall step given
+  truncate-follows n u =
+      let L = truncate-as-rust w r m p (J .stands) n u in
+      record {
+        left = theirs (L .left) (t .held);
+        run-is =
+            ap (λ (run : Run RustPool). with run (λ q. did (Whole (rustFrame q)) q (t .held))) (L .run-is)
+            ∙ ap (λ (g : Given). done (did g (L .left) (t .held)))
+            (ap Whole (frame-place _ _ (L .left) (L .holds)) ∙ frame-given (call-answers w r m (Truncate n) u));
+        joined =
+            call-joined (λ c. s .held) (truncate-call n) (sound-kept w r (TruncateStep n) (J .sound-is))
+            (truncate-holds w r (s .held) (J .holds) n) (L .holds) (J .held-is);
+      }
+
+  take-follows : (destination : List ℕ) → numberOf w r m (Take destination) ≡ 0 → Follows (Make (Take destination))
+  unfolding numberOf outcomeOf Result rustStep rustCall step given
+  take-follows destination u =
+      let o = taken w r m destination in
+      let L = take-as-rust w r m p (J .stands) destination u in
+      let slice = sliceOf (o .call .answer) (o .destination) in
+      record {
+        left = theirs (L .left) (rustHolding slice (t .held));
+        run-is =
+            rw (L .run-is)
+            (ap (λ (g : Given). done (did g (L .left) (rustHolding slice (t .held))))
+            (slice-given (o .call .answer) (o .destination) (call-answers w r m (Take destination) u)));
+        joined =
+            call-joined (λ c. holding (c .answer) (s .held)) (take-call destination)
+            (sound-kept w r (TakeStep (length destination)) (J .sound-is))
+            (take-holds w r (s .held) (J .holds) (length destination) (joined-orderly w s t J)) (L .holds)
+            (ap (rustHolding slice) (J .held-is) ∙ taken-held (o .call .answer) (o .destination) (s .held));
+      }
+
+  -- a handle that is released names a slice, which is held
+  released-named : (h : Handle) → refusal (releaseStep w r h .answer) ≡ 0 → Named w r h
+  unfolding releaseStep refusal
+  released-named h =
+      pick-cases (λ (c : Called). refusal (c .answer) ≡ 0 → Named w r h) (names w r h) (λ e u. names-use w r h e)
+      (λ e u. absurd (omega (arith, u)))
+
+  release-follows : (h : Handle) → numberOf w r m (Release h) ≡ 0 → Follows (Make (Release h))
+  unfolding numberOf outcomeOf Result rustStep rustCall step given
+  release-follows h u =
+      let L = release-as-rust w r m p (J .stands) h u in
+      let e = release-call h in
+      let N = released-named h (subst (λ (c : Called). refusal (c .answer) ≡ 0) e u) in
+      record {
+        left = theirs (L .left) (rustWithout (h .slot) (t .held));
+        run-is =
+            rw (slice-part w s t J h N .rust-is, L .run-is)
+            (ap (λ (g : Given). done (did g (L .left) (rustWithout (h .slot) (t .held))))
+            (nothing-given (call-answers w r m (Release h) u)));
+        joined =
+            call-joined (λ c. letGo (refusal (c .answer)) (h .slot) (s .held)) e (sound-kept w r (ReleaseStep h) (J .sound-is))
+            (release-holds w r (s .held) (J .holds) h) (L .holds)
+            (rw u (ap (rustWithout (h .slot)) (J .held-is) ∙ released-held (h .slot) (s .held)));
+      }
+
+  follows : (e : Event) → number w s e ≡ 0 → Follows e
+  unfolding number
+  follows (Make (Reserve len)) u = reserve-follows len u
+  follows (Make (Commit n)) u = commit-follows n u
+  follows (Make (Truncate n)) u = truncate-follows n u
+  follows (Make (Take destination)) u = take-follows destination u
+  follows (Make (Release h)) u = release-follows h u
+  follows (Make (Look part)) u = look-follows part u
+  follows (Write part i byte) u = write-follows part i byte u
+
+-- ---- An event that we refuse leaves ours as it was
+
+held-stays : (w : ℕ) (s : Ours) (c : Call) → 0 < numberOf w (s .pool) (s .memory) c → heldAfter w s c ≡ s .held
+held-stays w s (Reserve len) h = refl
+held-stays w s (Commit n) h = refl
+held-stays w s (Truncate n) h = refl
+held-stays w s (Take destination) h =
+    ap (λ (o : Outcome). holding (o .call .answer) (s .held)) (refused-keeps w (s .pool) (s .memory) (Take destination) h)
+held-stays w s (Release h) k = go (numberOf w (s .pool) (s .memory) (Release h)) k
   where
-    view : Bool → View
-    view t = guarded w (s .pool) (s .memory) hidden (pick t (shown (at Pool (h .start) (h .length))) (hidden 7))
+    go : (n : ℕ) → 0 < n → letGo n (h .slot) (s .held) ≡ s .held
+    go zero l = absurd (omega arith)
+    go (suc n) l = refl
+held-stays w s (Look part) h = refl
 
-    go : (t : Bool) → view t .number ≡ 0
-        → Leaves (done (rustWritten p (at Pool (h .start) (h .length)) i byte)) (λ q. q)
-        (Stands (s .pool) (written (s .memory) (view t .place) i byte))
-    go true u =
-        write-agrees w (s .pool) (s .memory) p T (at Pool (h .start) (h .length)) (at Pool (h .start) (h .length)) refl (λ O. tt) (view true)
-        (viewed w (s .pool) (s .memory) (shown (at Pool (h .start) (h .length))) u) i byte
-    go false u = absurd (omega (arith, viewed w (s .pool) (s .memory) (hidden 7) u .unrefused))
+stays : (w : ℕ) (s : Ours) (e : Event) → 0 < number w s e → step w s e ≡ s
+unfolding number step written
+stays w s (Make c) h =
+    ap (λ (o : Outcome). ours (o .call .pool) (o .memory) (heldAfter w s c)) (refused-keeps w (s .pool) (s .memory) c h)
+    ∙ ap (λ (held : List Handle). ours (s .pool) (s .memory) held) (held-stays w s c h)
+stays w s (Write part i byte) h =
+    ap (λ (v : View). ours (s .pool) (written (s .memory) (v .place) i byte) (s .held)) (refused-view w (s .pool) (s .memory) part h)
+    ∙ rw (le-ltb i 0 (omega arith)) refl
 
-event-agrees : (w : ℕ) (s : Ours) (p : RustPool) (e : Event) → Keeps w s p e
-unfolding step number rustStep frameView reservationView
-event-agrees w s p (Reserve len) T u =
-    alone (λ a. a .left) (reply-left (reserve w (s .pool) (s .memory) len .call .answer)) (reserve-as-rust w (s .pool) (s .memory) p T 0 len u)
-event-agrees w s p (Commit n) T u = commit-as-rust w (s .pool) (s .memory) p T n u
-event-agrees w s p (Truncate n) T u = truncate-as-rust w (s .pool) (s .memory) p T n u
-event-agrees w s p (Take destination) T u = alone (λ a. a .left) (λ q. refl) (take-as-rust w (s .pool) (s .memory) p T destination u)
-event-agrees w s p (Release h) T u = release-as-rust w (s .pool) (s .memory) p T h u
-event-agrees w s p (WriteFrame i byte) T u =
-    write-agrees w (s .pool) (s .memory) p T (frame (s .pool)) (rustFrame p) (frame-place w (s .pool) (s .memory) p T)
-    (frame-kept w (s .pool) (s .memory) p T) _ (viewed w (s .pool) (s .memory) (shown (frame (s .pool))) u) i byte
-event-agrees w s p (WriteReservation i byte) T u =
-    write-agrees w (s .pool) (s .memory) p T (reservation (s .pool)) (rustReservation p) (reservation-place w (s .pool) (s .memory) p T)
-    (reservation-kept w (s .pool) (s .memory) p T) _ (viewed w (s .pool) (s .memory) (shown (reservation (s .pool))) u) i byte
-event-agrees w s p (WriteSlice h i byte) T u = slice-written w s p h i byte T u
+-- ---- The sequence
 
-steps-agree : (w : ℕ) (es : List Event) (s : Ours) (p : RustPool) → Stands (s .pool) (s .memory) p → Accepted w s es
-    → Leaves (rustSteps w p es) (λ q. q) (Stands (steps w s es .pool) (steps w s es .memory))
-unfolding rustSteps steps Accepted
-steps-agree w [] s p T a = record { left = p; run-is = refl; holds = T }
-steps-agree w (e ∷ es) s p T a =
-    let L = event-agrees w s p e T (a .0) in
-    rw (L .run-is) (steps-agree w es (step w s e) (L .left) (L .holds) (a .1))
+Shows : (w : ℕ) → List Event → Ours → Theirs → Type 0
+Shows w es s t = rustShows w t (accepted w s es) ≡ done (shows w s es)
+
+joined-shows : (w : ℕ) (es : List Event) (s : Ours) (t : Theirs) → Joined w s t → Shows w es s t
+unfolding Shows rustShows accepted shows
+joined-shows w [] s t J = refl
+joined-shows w (e ∷ es) s t J = go (number w s e) refl (joined-shows w es)
+  where
+    go : (n : ℕ) → number w s e ≡ n → ((s′ : Ours) (t′ : Theirs) → Joined w s′ t′ → Shows w es s′ t′)
+        → rustShows w t (unlessRefused n e (accepted w (step w s e) es))
+        ≡ done (unlessRefused n (shownBy w (step w s e) (given w s e)) (shows w (step w s e) es))
+    go zero u rest =
+        let F = follows w s t J e u in
+        rw (F .run-is, shown-agrees w (step w s e) (F .left) (F .joined) (given w s e), rest (step w s e) (F .left) (F .joined)) refl
+    go (suc n) u rest = subst (λ (x : Ours). Shows w es x t) (sym (stays w s e (omega (arith, u)))) (rest s t J)
+
+abbrev Starts : ℕ → Outcome → Type 0
+Starts w o = Unrefused o → (sound w (o .call .pool) ≡ true) × Holds w (o .call .pool) []
+
+new-starts : (w : ℕ) (m : Memories) → 0 < w → Starts w (new w m)
+unfolding new refusal
+new-starts w m l =
+    pick-cases (Starts w) (ltb byteLimit (length (m .pool)) || ltb byteLimit (length (m .overflow))) (λ e u. absurd (omega (arith, u)))
+    (λ e u. let a = either-false (ltb byteLimit (length (m .pool))) _ e in (
+      sound-new w (length (m .pool)) (length (m .overflow)) l (ltb-false byteLimit (length (m .pool)) (a .0))
+          (ltb-false byteLimit (length (m .overflow)) (a .1)),
+      new-holds w (length (m .pool)) (length (m .overflow)),
+    ))
+
+start-joined : (w : ℕ) (m : Memories) → 0 < w → Unrefused (new w m) → Joined w (ourStart w m) (rustStart w m)
+start-joined w m l u =
+    let S = new-starts w m l u in
+    record { sound-is = S .0; stands = new-as-rust w m u; held-is = refl; holds = S .1 }
 
 -- ---- The theorem
 
--- from a new pool, whatever is called and written: as long as we refuse nothing, the Rust does not panic, and its pool stands
--- for our record and memories; so its modes, live slots, places and bytes are ours, and by the theorems of RustCalls.antt so is
--- each answer
-pub as-the-rust : (w : ℕ) (m : Memories) (es : List Event) → Unrefused (new w m) → Accepted w (left (new w m)) es
-    → Leaves (rustSteps w (rust-new w (length (m .pool))) es) (λ q. q)
-    (Stands (steps w (left (new w m)) es .pool) (steps w (left (new w m)) es .memory))
-as-the-rust w m es u a = steps-agree w es (left (new w m)) (rust-new w (length (m .pool))) (new-as-rust w m u) a
+-- from a new pool of any capacities within the limit and any bytes in the overflow, whatever is called and written: the Rust, given
+-- the events that we do not refuse, does not panic, and shows at each of them what we show
+pub as-the-rust : (w : ℕ) (m : Memories) (es : List Event) → 0 < w → Unrefused (new w m)
+    → rustShows w (rustStart w m) (accepted w (ourStart w m) es) ≡ done (shows w (ourStart w m) es)
+unfolding Shows
+as-the-rust w m es l u = joined-shows w es (ourStart w m) (rustStart w m) (start-joined w m l u)

@@ -29,4 +29,11 @@ pub mod RustFunctions
 pub mod RustLayers
 pub mod RustAgrees
 pub mod RustCalls
+pub mod RefusedKeeps
+pub mod FrameLength
+pub mod OnlyForCause
+pub mod Answers
+pub mod Handles
+pub mod Joined
 pub mod AsTheRust
+pub mod Demands

@@ -10,6 +10,7 @@ pub mod Steps
 pub mod Calls
 pub mod Rust
 pub mod AsRust
+pub mod Causes
 pub mod Together
 pub mod Cases
 pub mod Computing

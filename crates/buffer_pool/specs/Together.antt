@@ -1,76 +1,186 @@
--- Sequences of calls, and of bytes written to what they show: on our pool with its lent memories, and on the Rust's.
--- proofs/AsTheRust.antt shows that the two stay together as long as we refuse nothing.
-use mathlib.Core.Path.{_≡_}
-use mathlib.Core.List.{List, [], _∷_}
-use Prim.Native.Nat.{ℕ, suc, _+_}
+-- Sequences of calls and of writes to what they show: what our pool shows at each that it does not refuse, and what the Rust's
+-- pool shows at each that it is given. proofs/AsTheRust.antt shows that the two lists are the same.
+use mathlib.Core.List.{List, [], _∷_, map}
+use Prim.Native.Nat.{ℕ, zero, suc, _+_}
+use lib.Dec.{eqb}
+use lib.ListN.{length}
+use Rattle.laws.specs.Tests.{pick}
+use Rattle.laws.specs.Lists.{part}
 use Rattle.buffer_pool.specs.declared.slice.Handle.{Handle}
 use Rattle.buffer_pool.specs.declared.buffer_pool.BufferPool.{BufferPool}
 use Rattle.buffer_pool.specs.declared.buffer_pool.PoolMode.{PoolMode}
 use Rattle.buffer_pool.specs.declared.buffer_pool.PoolMode.the-variants.{Back, Front, Alloc}
+use Rattle.buffer_pool.specs.declared.buffer_pool.Memory.{Memory}
 use Rattle.buffer_pool.specs.declared.buffer_pool.Memory.the-variants.{Pool, Overflow}
 use Rattle.buffer_pool.specs.declared.buffer_pool.Place.{Place}
+use Rattle.buffer_pool.specs.declared.buffer_pool.Answer.{Answer}
+use Rattle.buffer_pool.specs.declared.buffer_pool.Answer.the-variants.{Done, Reserved, Framed, Taken, Copied, Refused}
 use Rattle.buffer_pool.specs.Moves.{Memories}
 use Rattle.buffer_pool.specs.Placing.{mostChanges}
-use Rattle.buffer_pool.specs.Steps.{refusal, at}
-use Rattle.buffer_pool.specs.Calls.{Outcome, reserve, commit, truncate, take, release, View, frameView, reservationView, sliceView, written}
-use Rattle.buffer_pool.specs.Rust.{Run, done, then, with, RustPool, rust-reserve, rust-commit, rust-truncate, rust-take, rust-release}
-use Rattle.buffer_pool.specs.AsRust.{rustWritten}
+use Rattle.buffer_pool.specs.Steps.{at}
+use Rattle.buffer_pool.specs.Calls.{Outcome, new, View, bytesAt, written}
+use Rattle.buffer_pool.specs.Rust.{Run, done, panic, then, with, RustPool, Slice, Pooled, Heap, rust-reserve, rust-commit, rust-truncate, rust-take, rust-release, rust-frame, rust-new}
+use Rattle.buffer_pool.specs.AsRust.{sliceOf, rustWritten}
+use Rattle.buffer_pool.specs.Causes.{Part, TheFrame, TheReservation, TheSlice, Call, Reserve, Commit, Truncate, Take, Release, Look, viewOf, outcomeOf, numberOf}
+
+-- ---- Events, and what is seen at one
 
 pub data Event : Type 0 where
-  Reserve : ℕ → Event
-  Commit : ℕ → Event
-  Truncate : ℕ → Event
-  -- with this destination
-  Take : List ℕ → Event
-  Release : Handle → Event
-  -- a byte at this index: of the frame, of the reservation, of a slice
-  WriteFrame : ℕ → ℕ → Event
-  WriteReservation : ℕ → ℕ → Event
-  WriteSlice : Handle → ℕ → ℕ → Event
+  Make : Call → Event
+  -- "A write sets one byte of a view": of this part, at this index, to this byte; past the view's end it sets none
+  Write : Part → ℕ → ℕ → Event
+
+-- a range and the bytes in it
+pub record Seen : Type 0 where
+  pub place : Place
+  pub bytes : List ℕ
+
+abbrev pub seen : Place → List ℕ → Seen
+seen place bytes = record { place = place; bytes = bytes }
+
+-- what an event gives
+pub data Given : Type 0 where
+  -- a release and a write
+  Nothing : Given
+  -- a reserve: the reservation, and the count of mode changes
+  Offer : Place → ℕ → Given
+  -- a commit and a truncate: the frame
+  Whole : Place → Given
+  -- a take: slot and place of a pooled slice, or a copied frame's bytes
+  Sliced : Slice → Given
+  -- a view
+  Viewed : Seen → Given
+
+-- what an event gives, and what there is to see after it: mode, live slots, frame, reservation, and the slice of each holder, the
+-- last taken first
+pub record Shown : Type 0 where
+  pub given : Given
+  pub mode : PoolMode
+  pub live : ℕ
+  pub frame : Seen
+  pub reservation : Seen
+  pub slices : List Seen
 
 -- ---- Ours
 
+-- record and memories, and the handles that were taken and not released
 pub record Ours : Type 0 where
   pub pool : BufferPool
   pub memory : Memories
+  pub held : List Handle
 
-abbrev pub left : Outcome → Ours
-left o = record { pool = o .call .pool; memory = o .memory }
+abbrev pub ours : BufferPool → Memories → List Handle → Ours
+ours pool memory held = record { pool = pool; memory = memory; held = held }
 
-abbrev pub wrote : Ours → View → ℕ → ℕ → Ours
-wrote s v i byte = record { pool = s .pool; memory = written (s .memory) (v .place) i byte }
+-- the view of a part
+abbrev pub view : ℕ → Ours → Part → View
+view w s p = viewOf w (s .pool) (s .memory) p
 
-unfoldable pub step : ℕ → Ours → Event → Ours
-step w s (Reserve len) = left (reserve w (s .pool) (s .memory) len)
-step w s (Commit n) = left (commit w (s .pool) (s .memory) n)
-step w s (Truncate n) = left (truncate w (s .pool) (s .memory) n)
-step w s (Take destination) = left (take w (s .pool) (s .memory) destination)
-step w s (Release h) = left (release w (s .pool) (s .memory) h)
-step w s (WriteFrame i byte) = wrote s (frameView w (s .pool) (s .memory)) i byte
-step w s (WriteReservation i byte) = wrote s (reservationView w (s .pool) (s .memory)) i byte
-step w s (WriteSlice h i byte) = wrote s (sliceView w (s .pool) (s .memory) h) i byte
+abbrev pub seenIn : ℕ → Ours → Part → Seen
+seenIn w s p = seen (view w s p .place) (bytesAt (s .memory) (view w s p .place))
+
+abbrev pub outcomeIn : ℕ → Ours → Call → Outcome
+outcomeIn w s c = outcomeOf w (s .pool) (s .memory) c
 
 -- the number of the refusal, or 0
 unfoldable pub number : ℕ → Ours → Event → ℕ
-number w s (Reserve len) = refusal (reserve w (s .pool) (s .memory) len .call .answer)
-number w s (Commit n) = refusal (commit w (s .pool) (s .memory) n .call .answer)
-number w s (Truncate n) = refusal (truncate w (s .pool) (s .memory) n .call .answer)
-number w s (Take destination) = refusal (take w (s .pool) (s .memory) destination .call .answer)
-number w s (Release h) = refusal (release w (s .pool) (s .memory) h .call .answer)
-number w s (WriteFrame i byte) = frameView w (s .pool) (s .memory) .number
-number w s (WriteReservation i byte) = reservationView w (s .pool) (s .memory) .number
-number w s (WriteSlice h i byte) = sliceView w (s .pool) (s .memory) h .number
+number w s (Make c) = numberOf w (s .pool) (s .memory) c
+number w s (Write p i byte) = view w s p .number
 
-unfoldable pub steps : ℕ → Ours → List Event → Ours
-steps w s [] = s
-steps w s (e ∷ rest) = steps w (step w s e) rest
+-- the handles held after a take's answer, and after a release with this number
+abbrev pub holding : Answer → List Handle → List Handle
+holding Done held = held
+holding (Reserved place changes) held = held
+holding (Framed place) held = held
+holding (Taken h) held = h ∷ held
+holding (Copied n) held = held
+holding (Refused n) held = held
 
--- none of the events is refused
-unfoldable pub Accepted : ℕ → Ours → List Event → Type 0
-Accepted w s [] = Unit {0}
-Accepted w s (e ∷ rest) = (number w s e ≡ 0) × Accepted w (step w s e) rest
+unfoldable pub without : ℕ → List Handle → List Handle
+without slot [] = []
+without slot (h ∷ held) = pick (eqb (h .slot) slot) (without slot held) (h ∷ without slot held)
+
+abbrev pub letGo : ℕ → ℕ → List Handle → List Handle
+letGo zero slot held = without slot held
+letGo (suc n) slot held = held
+
+-- the handles held after a call
+abbrev pub heldAfter : ℕ → Ours → Call → List Handle
+heldAfter w s (Reserve len) = s .held
+heldAfter w s (Commit n) = s .held
+heldAfter w s (Truncate n) = s .held
+heldAfter w s (Take destination) = holding (outcomeIn w s (Take destination) .call .answer) (s .held)
+heldAfter w s (Release h) = letGo (numberOf w (s .pool) (s .memory) (Release h)) (h .slot) (s .held)
+heldAfter w s (Look p) = s .held
+
+-- what an event leaves
+unfoldable pub step : ℕ → Ours → Event → Ours
+step w s (Make c) = ours (outcomeIn w s c .call .pool) (outcomeIn w s c .memory) (heldAfter w s c)
+step w s (Write p i byte) = ours (s .pool) (written (s .memory) (view w s p .place) i byte) (s .held)
+
+-- what an answer gives, with the destination left
+unfoldable pub givenBy : Answer → List ℕ → Given
+givenBy Done destination = Nothing
+givenBy (Reserved place changes) destination = Offer place changes
+givenBy (Framed place) destination = Whole place
+givenBy (Taken h) destination = Sliced (sliceOf (Taken h) destination)
+givenBy (Copied n) destination = Sliced (sliceOf (Copied n) destination)
+givenBy (Refused n) destination = Nothing
+
+abbrev pub givenAt : ℕ → Ours → Call → Given
+givenAt w s (Reserve len) = givenBy (outcomeIn w s (Reserve len) .call .answer) []
+givenAt w s (Commit n) = givenBy (outcomeIn w s (Commit n) .call .answer) []
+givenAt w s (Truncate n) = givenBy (outcomeIn w s (Truncate n) .call .answer) []
+givenAt w s (Take d) = givenBy (outcomeIn w s (Take d) .call .answer) (outcomeIn w s (Take d) .destination)
+givenAt w s (Release h) = givenBy (outcomeIn w s (Release h) .call .answer) []
+givenAt w s (Look p) = Viewed (seenIn w s p)
+
+unfoldable pub given : ℕ → Ours → Event → Given
+given w s (Make c) = givenAt w s c
+given w s (Write p i byte) = Nothing
+
+-- all that is seen is seen through the views
+unfoldable pub shownBy : ℕ → Ours → Given → Shown
+shownBy w s g =
+    record {
+      given = g;
+      mode = s .pool .mode;
+      live = s .pool .live;
+      frame = seenIn w s TheFrame;
+      reservation = seenIn w s TheReservation;
+      slices = map (λ h. seenIn w s (TheSlice h)) (s .held);
+    }
+
+-- the events that are not refused, and what is shown at each of them
+abbrev pub unlessRefused : {A : Type 0} → ℕ → A → List A → List A
+unlessRefused zero a rest = a ∷ rest
+unlessRefused (suc n) a rest = rest
+
+unfoldable pub accepted : ℕ → Ours → List Event → List Event
+accepted w s [] = []
+accepted w s (e ∷ es) = unlessRefused (number w s e) e (accepted w (step w s e) es)
+
+unfoldable pub shows : ℕ → Ours → List Event → List Shown
+shows w s [] = []
+shows w s (e ∷ es) = unlessRefused (number w s e) (shownBy w (step w s e) (given w s e)) (shows w (step w s e) es)
 
 -- ---- The Rust's
+
+-- a pooled slice as its holder has it: its slot, and where its pointer and length lie in the pool
+pub record Holder : Type 0 where
+  pub slot : ℕ
+  pub place : Place
+
+abbrev pub holder : ℕ → Place → Holder
+holder slot place = record { slot = slot; place = place }
+
+-- the pool, and the pooled slices that were taken and not dropped
+pub record Theirs : Type 0 where
+  pub pool : RustPool
+  pub held : List Holder
+
+abbrev pub theirs : RustPool → List Holder → Theirs
+theirs pool held = record { pool = pool; held = held }
 
 -- where `frame_mut` lies, and after it what the last `reserve` handed out
 abbrev pub rustFrameIn : PoolMode → RustPool → Place
@@ -84,16 +194,80 @@ rustFrame p = rustFrameIn (p .mode) p
 abbrev pub rustReservation : RustPool → Place
 rustReservation p = at (rustFrame p .memory) (rustFrame p .start + rustFrame p .length) (p .reserved)
 
-unfoldable pub rustStep : ℕ → RustPool → Event → Run RustPool
-rustStep w p (Reserve len) = with (rust-reserve w (suc mostChanges) p len) (λ a. a .left)
-rustStep w p (Commit n) = rust-commit p n
-rustStep w p (Truncate n) = done (rust-truncate p n)
-rustStep w p (Take destination) = with (rust-take w p) (λ a. a .left)
-rustStep w p (Release h) = rust-release w p (h .slot)
-rustStep w p (WriteFrame i byte) = done (rustWritten p (rustFrame p) i byte)
-rustStep w p (WriteReservation i byte) = done (rustWritten p (rustReservation p) i byte)
-rustStep w p (WriteSlice h i byte) = done (rustWritten p (at Pool (h .start) (h .length)) i byte)
+-- the place of the held slice of a slot; without such a slice there is nothing to use or to drop
+unfoldable pub heldPlace : ℕ → List Holder → Run Place
+heldPlace slot [] = panic
+heldPlace slot (h ∷ held) = pick (eqb (h .slot) slot) (done (h .place)) (heldPlace slot held)
 
-unfoldable pub rustSteps : ℕ → RustPool → List Event → Run RustPool
-rustSteps w p [] = done p
-rustSteps w p (e ∷ rest) = then (rustStep w p e) (λ q. rustSteps w q rest)
+abbrev pub rustPlace : Theirs → Part → Run Place
+rustPlace t TheFrame = done (rustFrame (t .pool))
+rustPlace t TheReservation = done (rustReservation (t .pool))
+rustPlace t (TheSlice h) = heldPlace (h .slot) (t .held)
+
+-- the bytes at a place: of the pool, or of the `Vec`
+abbrev pub rustMemory : Memory → RustPool → List ℕ
+rustMemory Pool p = p .inner-memory .bytes
+rustMemory Overflow p = p .system-memory .inner
+
+abbrev pub rustSeen : RustPool → Place → Seen
+rustSeen p place = seen place (part (rustMemory (place .memory) p) (place .start) (place .length))
+
+-- the slices held after a take, and after the drop of one
+abbrev pub rustHolding : Slice → List Holder → List Holder
+rustHolding (Pooled slot start len) held = holder slot (at Pool start len) ∷ held
+rustHolding (Heap bytes) held = held
+
+unfoldable pub rustWithout : ℕ → List Holder → List Holder
+rustWithout slot [] = []
+rustWithout slot (h ∷ held) = pick (eqb (h .slot) slot) (rustWithout slot held) (h ∷ rustWithout slot held)
+
+-- what an event gives and leaves
+pub record Did : Type 0 where
+  pub given : Given
+  pub left : Theirs
+
+abbrev pub did : Given → RustPool → List Holder → Did
+did given pool held = record { given = given; left = theirs pool held }
+
+unfoldable pub rustCall : ℕ → Theirs → Call → Run Did
+rustCall w t (Reserve len) =
+    with (rust-reserve w (suc mostChanges) (t .pool) len) (λ a. did (Offer (a .writable) (a .changes)) (a .left) (t .held))
+rustCall w t (Commit n) = with (rust-commit (t .pool) n) (λ q. did (Whole (rustFrame q)) q (t .held))
+rustCall w t (Truncate n) = with (done (rust-truncate (t .pool) n)) (λ q. did (Whole (rustFrame q)) q (t .held))
+rustCall w t (Take destination) =
+    with (rust-take w (t .pool)) (λ a. did (Sliced (a .slice)) (a .left) (rustHolding (a .slice) (t .held)))
+rustCall w t (Release h) =
+    then (heldPlace (h .slot) (t .held))
+    (λ place. with (rust-release w (t .pool) (h .slot)) (λ q. did Nothing q (rustWithout (h .slot) (t .held))))
+rustCall w t (Look p) = with (rustPlace t p) (λ place. did (Viewed (rustSeen (t .pool) place)) (t .pool) (t .held))
+
+unfoldable pub rustStep : ℕ → Theirs → Event → Run Did
+rustStep w t (Make c) = rustCall w t c
+rustStep w t (Write p i byte) = with (rustPlace t p) (λ place. did Nothing (rustWritten (t .pool) place i byte) (t .held))
+
+-- the frame's bytes are those of `frame`
+unfoldable pub rustShown : Did → Run Shown
+rustShown a =
+    let p = a .left .pool in
+    with (rust-frame p)
+    (λ bytes. record {
+      given = a .given;
+      mode = p .mode;
+      live = p .inner-memory .live;
+      frame = seen (rustFrame p) bytes;
+      reservation = rustSeen p (rustReservation p);
+      slices = map (λ h. rustSeen p (h .place)) (a .left .held);
+    })
+
+unfoldable pub rustShows : ℕ → Theirs → List Event → Run (List Shown)
+rustShows w t [] = done []
+rustShows w t (e ∷ es) =
+    then (rustStep w t e) (λ a. then (rustShown a) (λ x. with (rustShows w (a .left) es) (λ rest. x ∷ rest)))
+
+-- ---- The two start
+
+abbrev pub ourStart : ℕ → Memories → Ours
+ourStart w m = ours (new w m .call .pool) (new w m .memory) []
+
+abbrev pub rustStart : ℕ → Memories → Theirs
+rustStart w m = theirs (rust-new w (length (m .pool))) []
