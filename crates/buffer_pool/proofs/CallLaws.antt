@@ -58,16 +58,16 @@ module _ (p : BufferPool) (m : Memories) (b : Bool) (e : b ≡ sound 8 p) where
       cause-none o = rw (← e, not-false b h, eq-eqb (length (m .pool)) (p .capacity) c, eq-eqb (length (m .overflow)) (p .overflow) o)
 
 -- a guarded answer, by the cause's two tests: is the record sound, do the memories not fit
-abbrev number : Bool → Bool → ℕ
+abbrev pub number : Bool → Bool → ℕ
 number s f = pick (not s) 1 (pick f 2 0)
 
-guarded-by : {A : Type 0} (s f : Bool) (refuse : ℕ → A) (done : A)
+pub guarded-by : {A : Type 0} (s f : Bool) (refuse : ℕ → A) (done : A)
     → (number s f ≡ 0 → ⊥) → refuse (number s f) ≡ pick (not s) (refuse 1) (pick f (refuse 2) done)
 guarded-by true true refuse done n = refl
 guarded-by true false refuse done n = absurd (n refl)
 guarded-by false f refuse done n = refl
 
-passed-by : {A : Type 0} (s f : Bool) (refuse : ℕ → A) (done : A) → number s f ≡ 0 → done ≡ pick (not s) (refuse 1) (pick f (refuse 2) done)
+pub passed-by : {A : Type 0} (s f : Bool) (refuse : ℕ → A) (done : A) → number s f ≡ 0 → done ≡ pick (not s) (refuse 1) (pick f (refuse 2) done)
 passed-by true true refuse done e = absurd (omega arith)
 passed-by true false refuse done e = refl
 passed-by false f refuse done e = absurd (omega arith)
@@ -199,7 +199,7 @@ orderly-cursor p O e = go (p .mode) e (O .in-mode)
     go Alloc e I = omega (arith, I .fits)
 
 -- the frame ends within a memory, whose length is a 64-bit number
-frame-end : (q : BufferPool) → Orderly 8 q → q .capacity ≤ byteLimit → q .overflow ≤ byteLimit → frameOf (q .mode) q .start + frameOf (q .mode) q .length ≤ 18446744073709551615
+pub frame-end : (q : BufferPool) → Orderly 8 q → q .capacity ≤ byteLimit → q .overflow ≤ byteLimit → frameOf (q .mode) q .start + frameOf (q .mode) q .length ≤ 18446744073709551615
 frame-end q O c o = go (q .mode) (O .in-mode)
   where
     go : (mode : PoolMode) → InMode 8 mode q (q .reserved) → frameOf mode q .start + frameOf mode q .length ≤ 18446744073709551615

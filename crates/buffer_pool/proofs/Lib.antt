@@ -23,6 +23,7 @@ pub mod StepLaws
 pub mod MovesInside
 pub mod PerformLaws
 pub mod CallLaws
+pub mod ViewLaws
 pub mod SoundKept
 pub mod HeapMoves
 pub mod RustFunctions

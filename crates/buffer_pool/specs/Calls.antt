@@ -2,7 +2,7 @@
 -- The contracts of the public functions are equations with these. w is the slot count.
 use mathlib.Core.Bool.{Bool, true, false, not, _&&_, _||_}
 use mathlib.Core.List.{List, [], _∷_}
-use Prim.Native.Nat.{ℕ, zero, suc, _+_}
+use Prim.Native.Nat.{ℕ, zero, suc, _+_, _≤_}
 use lib.Dec.{leb, ltb, eqb}
 use lib.ListN.{length, replicate, set}
 use Rattle.laws.specs.Tests.{pick}
@@ -119,3 +119,19 @@ writtenIn Overflow m i byte = memories (m .pool) (set (m .overflow) i byte)
 
 unfoldable pub written : Memories → Place → ℕ → ℕ → Memories
 written m p i byte = pick (ltb i (p .length)) (writtenIn (p .memory) m (p .start + i) byte) m
+
+-- where a place lies, as a pointer (block and offset), by the pointers to the two memories
+abbrev pub pointerTo : Memory → (ℕ × ℕ) → (ℕ × ℕ) → ℕ × ℕ
+pointerTo Pool pool overflow = pool
+pointerTo Overflow pool overflow = overflow
+
+-- so many bytes further on in the same block
+abbrev pub movedOn : (ℕ × ℕ) → ℕ → ℕ × ℕ
+movedOn pointer n = (pointer .0, n + pointer .1)
+
+unfoldable pub placeAt : (ℕ × ℕ) → (ℕ × ℕ) → Place → ℕ × ℕ
+placeAt pool overflow p = movedOn (pointerTo (p .memory) pool overflow) (p .start)
+
+-- the place lies in its memory
+abbrev pub Lies : Memories → Place → Type 0
+Lies m p = p .start + p .length ≤ length (memoryAt (p .memory) m)

@@ -12,3 +12,4 @@ mod pool_front;
 pub mod slice;
 pub mod sound;
 mod steps;
+mod views;

@@ -1,0 +1,17 @@
+-- `buffer_pool::BufferPool::reservation` meets its contract. Assumes nothing.
+use Rattle.buffer_pool.proofs.ViewLaws.{reservation-lies, bytes-there, pointer-there}
+use borrow.Author.Needs.{needs}
+use Rattle.buffer_pool.proofs.buffer_pool.BufferPool.reservation.Statement.{statement}
+use Rattle.buffer_pool.proofs.buffer_pool.BufferPool.reservation.Tie as tie
+
+reservation-place-requires : tie.Need-reservation-place-requires
+reservation-place-requires c κs = search needs
+
+view-requires : tie.Need-view-requires
+view-requires c κs = search reservation-lies
+
+returns : tie.Need-returns
+returns c = (search bytes-there, search pointer-there)
+
+pub reservation-spec : {M : Type 1} → statement M
+reservation-spec = tie.close (tie.spec reservation-place-requires view-requires returns)

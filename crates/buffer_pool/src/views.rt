@@ -1,0 +1,197 @@
+// The views: frame, reservation and slice as parts of the lent memories, never copies, and the number of a view's refusal. A
+// refused view is the empty part at the pool memory's start.
+ghost use mathlib.Core.Path.{_≡_};
+ghost use Prim.Native.Nat.{_+_, _≤_};
+ghost use lib.ListN.{length};
+ghost use denote.Ref.{ptr};
+ghost use Rattle.laws.specs.Lists as lists;
+ghost use Rattle.buffer_pool.specs.Moves.{memories};
+ghost use Rattle.buffer_pool.specs.Calls as spec;
+use crate::buffer_pool::BufferPool;
+use crate::buffer_pool::Memory;
+use crate::buffer_pool::Place;
+use crate::calls::guard;
+use crate::calls::reservation;
+use crate::slice::Handle;
+use crate::steps;
+
+// Where a refused view lies.
+fn nowhere() -> Place
+    ensures { λ r. ⌜ r ≡ spec.hidden 0 .place ⌝ }
+{
+    Place {
+        memory: Memory::Pool,
+        start: 0,
+        length: 0,
+    }
+}
+
+// Where the view of the frame lies.
+fn frame_place(p: BufferPool, pool: &[u8], overflow: &[u8]) -> Place
+    ensures { λ r. ⌜ r ≡ spec.frameView 8 p (memories (now (pool .entry)) (now (overflow .entry))) .place ⌝ }
+{
+    if guard(p, pool, overflow) != 0 {
+        return nowhere();
+    }
+    steps::frame(p)
+}
+
+// Where the view of the reservation lies.
+fn reservation_place(p: BufferPool, pool: &[u8], overflow: &[u8]) -> Place
+    ensures { λ r. ⌜ r ≡ spec.reservationView 8 p (memories (now (pool .entry)) (now (overflow .entry))) .place ⌝ }
+{
+    if guard(p, pool, overflow) != 0 {
+        return nowhere();
+    }
+    reservation(p)
+}
+
+// Where the view of a handle's slice lies.
+fn slice_place(p: BufferPool, pool: &[u8], overflow: &[u8], h: Handle) -> Place
+    ensures { λ r. ⌜ r ≡ spec.sliceView 8 p (memories (now (pool .entry)) (now (overflow .entry))) h .place ⌝ }
+{
+    if guard(p, pool, overflow) != 0 {
+        return nowhere();
+    }
+    if !steps::names(p, h) {
+        return nowhere();
+    }
+    Place {
+        memory: Memory::Pool,
+        start: h.start as u64,
+        length: h.length as u64,
+    }
+}
+
+// The part of a memory at a place.
+fn part<'a>(memory: &'a [u8], place: Place) -> &'a [u8]
+    requires { ⌜ place .start + place .length ≤ length (now memory) ⌝ }
+    ensures { λ r. ⌜ now r ≡ lists.part (now (memory .entry)) (place .start) (place .length) ⌝ }
+    ensures { λ r. ⌜ ptr r ≡ spec.movedOn (ptr (memory .entry)) (place .start) ⌝ }
+{
+    let start = place.start as usize;
+    let end = start + place.length as usize;
+    &memory[start..end]
+}
+
+// The same, to be written.
+fn part_mut<'a>(memory: &'a mut [u8], place: Place) -> &'a mut [u8]
+    requires { ⌜ place .start + place .length ≤ length (now memory) ⌝ }
+    ensures { λ r. ⌜ now r ≡ lists.part (now (memory .entry)) (place .start) (place .length) ⌝ }
+    ensures { λ r. ⌜ ptr r ≡ spec.movedOn (ptr (memory .entry)) (place .start) ⌝ }
+{
+    let start = place.start as usize;
+    let end = start + place.length as usize;
+    &mut memory[start..end]
+}
+
+// The part of the place's memory.
+fn view<'a>(pool: &'a [u8], overflow: &'a [u8], place: Place) -> &'a [u8]
+    requires { ⌜ spec.Lies (memories (now pool) (now overflow)) place ⌝ }
+    ensures { λ r. ⌜ now r ≡ spec.bytesAt (memories (now (pool .entry)) (now (overflow .entry))) place ⌝ }
+    ensures { λ r. ⌜ ptr r ≡ spec.placeAt (ptr (pool .entry)) (ptr (overflow .entry)) place ⌝ }
+{
+    let memory = place.memory;
+    match memory {
+        Memory::Pool => part(pool, place),
+        Memory::Overflow => part(overflow, place),
+    }
+}
+
+// The same, to be written.
+fn view_mut<'a>(pool: &'a mut [u8], overflow: &'a mut [u8], place: Place) -> &'a mut [u8]
+    requires { ⌜ spec.Lies (memories (now pool) (now overflow)) place ⌝ }
+    ensures { λ r. ⌜ now r ≡ spec.bytesAt (memories (now (pool .entry)) (now (overflow .entry))) place ⌝ }
+    ensures { λ r. ⌜ ptr r ≡ spec.placeAt (ptr (pool .entry)) (ptr (overflow .entry)) place ⌝ }
+{
+    let memory = place.memory;
+    match memory {
+        Memory::Pool => part_mut(pool, place),
+        Memory::Overflow => part_mut(overflow, place),
+    }
+}
+
+impl BufferPool {
+    // The frame, a part of the pool memory or of the overflow by mode. Refused with 1 and 2 (`frame_number`).
+    pub fn frame<'a>(self, pool: &'a [u8], overflow: &'a [u8]) -> &'a [u8]
+        ensures { λ r. ⌜ now r ≡ spec.bytesAt (memories (now (pool .entry)) (now (overflow .entry))) (spec.frameView 8 self (memories (now (pool .entry)) (now (overflow .entry))) .place) ⌝ }
+        ensures { λ r. ⌜ ptr r ≡ spec.placeAt (ptr (pool .entry)) (ptr (overflow .entry)) (spec.frameView 8 self (memories (now (pool .entry)) (now (overflow .entry))) .place) ⌝ }
+    {
+        let place = frame_place(self, pool, overflow);
+        view(pool, overflow, place)
+    }
+
+    // The same, to be written.
+    pub fn frame_mut<'a>(self, pool: &'a mut [u8], overflow: &'a mut [u8]) -> &'a mut [u8]
+        ensures { λ r. ⌜ now r ≡ spec.bytesAt (memories (now (pool .entry)) (now (overflow .entry))) (spec.frameView 8 self (memories (now (pool .entry)) (now (overflow .entry))) .place) ⌝ }
+        ensures { λ r. ⌜ ptr r ≡ spec.placeAt (ptr (pool .entry)) (ptr (overflow .entry)) (spec.frameView 8 self (memories (now (pool .entry)) (now (overflow .entry))) .place) ⌝ }
+    {
+        let place = frame_place(self, pool, overflow);
+        view_mut(pool, overflow, place)
+    }
+
+    // The number of the refusal of a view of the frame, or 0.
+    pub fn frame_number(self, pool: &[u8], overflow: &[u8]) -> u8
+        ensures { λ r. ⌜ r ≡ spec.frameView 8 self (memories (now (pool .entry)) (now (overflow .entry))) .number ⌝ }
+    {
+        guard(self, pool, overflow)
+    }
+
+    // The reservation, after the frame in the same memory. Refused with 1 and 2 (`reservation_number`).
+    pub fn reservation<'a>(self, pool: &'a [u8], overflow: &'a [u8]) -> &'a [u8]
+        ensures { λ r. ⌜ now r ≡ spec.bytesAt (memories (now (pool .entry)) (now (overflow .entry))) (spec.reservationView 8 self (memories (now (pool .entry)) (now (overflow .entry))) .place) ⌝ }
+        ensures { λ r. ⌜ ptr r ≡ spec.placeAt (ptr (pool .entry)) (ptr (overflow .entry)) (spec.reservationView 8 self (memories (now (pool .entry)) (now (overflow .entry))) .place) ⌝ }
+    {
+        let place = reservation_place(self, pool, overflow);
+        view(pool, overflow, place)
+    }
+
+    // The same, to be written.
+    pub fn reservation_mut<'a>(self, pool: &'a mut [u8], overflow: &'a mut [u8]) -> &'a mut [u8]
+        ensures { λ r. ⌜ now r ≡ spec.bytesAt (memories (now (pool .entry)) (now (overflow .entry))) (spec.reservationView 8 self (memories (now (pool .entry)) (now (overflow .entry))) .place) ⌝ }
+        ensures { λ r. ⌜ ptr r ≡ spec.placeAt (ptr (pool .entry)) (ptr (overflow .entry)) (spec.reservationView 8 self (memories (now (pool .entry)) (now (overflow .entry))) .place) ⌝ }
+    {
+        let place = reservation_place(self, pool, overflow);
+        view_mut(pool, overflow, place)
+    }
+
+    // The number of the refusal of a view of the reservation, or 0.
+    pub fn reservation_number(self, pool: &[u8], overflow: &[u8]) -> u8
+        ensures { λ r. ⌜ r ≡ spec.reservationView 8 self (memories (now (pool .entry)) (now (overflow .entry))) .number ⌝ }
+    {
+        guard(self, pool, overflow)
+    }
+
+    // The slice of a handle, a part of the pool memory; the overflow is only measured. Refused with 1, 2, and with 7 if the handle
+    // names no live slice (`slice_number`).
+    pub fn slice<'a>(self, pool: &'a [u8], overflow: &[u8], h: Handle) -> &'a [u8]
+        ensures { λ r. ⌜ now r ≡ spec.bytesAt (memories (now (pool .entry)) (now (overflow .entry))) (spec.sliceView 8 self (memories (now (pool .entry)) (now (overflow .entry))) h .place) ⌝ }
+        ensures { λ r. ⌜ ptr r ≡ spec.placeAt (ptr (pool .entry)) (ptr (overflow .entry)) (spec.sliceView 8 self (memories (now (pool .entry)) (now (overflow .entry))) h .place) ⌝ }
+    {
+        let place = slice_place(self, pool, overflow, h);
+        part(pool, place)
+    }
+
+    // The same, to be written.
+    pub fn slice_mut<'a>(self, pool: &'a mut [u8], overflow: &[u8], h: Handle) -> &'a mut [u8]
+        ensures { λ r. ⌜ now r ≡ spec.bytesAt (memories (now (pool .entry)) (now (overflow .entry))) (spec.sliceView 8 self (memories (now (pool .entry)) (now (overflow .entry))) h .place) ⌝ }
+        ensures { λ r. ⌜ ptr r ≡ spec.placeAt (ptr (pool .entry)) (ptr (overflow .entry)) (spec.sliceView 8 self (memories (now (pool .entry)) (now (overflow .entry))) h .place) ⌝ }
+    {
+        let place = slice_place(self, pool, overflow, h);
+        part_mut(pool, place)
+    }
+
+    // The number of the refusal of a view of the handle's slice, or 0.
+    pub fn slice_number(self, pool: &[u8], overflow: &[u8], h: Handle) -> u8
+        ensures { λ r. ⌜ r ≡ spec.sliceView 8 self (memories (now (pool .entry)) (now (overflow .entry))) h .number ⌝ }
+    {
+        let number = guard(self, pool, overflow);
+        if number != 0 {
+            return number;
+        }
+        if !steps::names(self, h) {
+            return 7;
+        }
+        0
+    }
+}
