@@ -1,7 +1,6 @@
 //! Document 01's proved cases and its listing, asked of the Rust. The expected values are typed in
 //! from document 01; nothing here is copied from what the driver prints.
 
-use crate::calls::Event;
 use crate::classes::Tally;
 use crate::generate;
 use crate::judge::{Answer, Judge};
@@ -137,8 +136,9 @@ fn a_second_release_is_refused() {
     assert_eq!(done("pool 16 overflow 20\nr 6; c 6; t\nd 1; d 1").refusals(2), [0, 7]);
 }
 
-/// The listing of document 01, as it stands there. Its last column is the move, not the changes.
-const LISTING: &str = "\
+/// The listing of document 01, as it stands there; trace.rs asks the Rust for it. Its last column is
+/// the move, not the changes.
+pub const LISTING: &str = "\
 pool 16 overflow 12
 1 r 0 B 00 0 6 0
 2 c 0 B 00 0 6 0
@@ -154,43 +154,6 @@ pool 16 overflow 12
 12 r 0 B 00 0 16 0
 T 10 2 50 0
 ";
-
-#[test]
-fn the_listing_of_poolreplay() {
-    let list = text::parse(
-        "pool 16 overflow 12
-         r 6; c 6; t; r 13; r 8; c 9; c 4; r 7; k 3; t; d 1; r 16",
-    )
-    .expect("a good text")
-    .remove(0);
-    let mut judge = Judge::new(list.capacity, list.overflow);
-    let mut printed = format!("pool {} overflow {}\n", list.capacity, list.overflow);
-    let (mut refused, mut pooled, mut copied) = (0, 0, 0);
-    for (at, event) in list.events.iter().enumerate() {
-        let before = judge.situation().record;
-        let answer = judge.apply(event);
-        let record = judge.situation().record;
-        let in_pool = before.mode.letter() != 'A' && record.mode.letter() != 'A';
-        let moved = match event {
-            Event::Reserve(_) if in_pool => record.frame_start as i64 - before.frame_start as i64,
-            _ => 0,
-        };
-        refused += usize::from(answer.refusal != 0);
-        if let (Event::Take(_), 0, 1..) = (event, answer.refusal, answer.len) {
-            copied += usize::from(!answer.copied.is_empty());
-            pooled += usize::from(answer.copied.is_empty());
-        }
-        let (letter, refusal, mode) = (event.letter(), answer.refusal, record.mode.letter());
-        let (live, start, len) = (record.live, answer.start, answer.len);
-        let number = at + 1;
-        printed +=
-            &format!("{number} {letter} {refusal} {mode} {live:02x} {start} {len} {moved}\n");
-    }
-    let percent = copied * 100 / (copied + pooled);
-    let held: usize = judge.slices().map(|(_, bytes)| bytes.len()).sum();
-    printed += &format!("T {} {refused} {percent} {held}\n", list.events.len() - refused);
-    assert_eq!(printed, LISTING);
-}
 
 /// Lists from a seed in the unoptimised build: no sum wraps, nothing panics, and every event is of
 /// a known class.

@@ -12,8 +12,10 @@ mod judge;
 mod random;
 mod record;
 mod text;
+mod trace;
 
 use answers::Form;
+use std::fs;
 use std::io::{self, BufWriter, Read, Write};
 use std::process::ExitCode;
 use std::str::FromStr;
@@ -24,7 +26,10 @@ usage:
   oracle gen SEED COUNT [--capacity MOST] [--events MOST] [--cover TIMES] > CALLS
   oracle classes < CALLS
   oracle text < TEXT > CALLS
-  oracle read < CALLS > TEXT";
+  oracle read < CALLS > TEXT
+  oracle trace BYTES < TEXT > TRACE
+  oracle listing < TRACE
+  oracle traces SEED COUNT FOLDER";
 
 fn main() -> ExitCode {
     let words: Vec<String> = std::env::args().skip(1).collect();
@@ -47,6 +52,9 @@ fn command(words: &[&str]) -> Result<(), String> {
         ["classes"] => classes(),
         ["text"] => print(&calls::encode(&text::parse(&read_text()?)?)),
         ["read"] => print(text::print(&read_calls()?).as_bytes()),
+        ["trace", bytes] => make_trace(bytes.as_bytes()),
+        ["listing"] => print(trace::listing(&read_bytes()?).as_bytes()),
+        ["traces", seed, count, folder] => make_traces(number(seed)?, number(count)?, folder),
         _ => Err(USAGE.into()),
     }
 }
@@ -87,10 +95,32 @@ fn classes() -> Result<(), String> {
     tally.complaint().map_or(Ok(()), Err)
 }
 
-fn read_calls() -> Result<Vec<calls::List>, String> {
+/// The trace of the one list that the text has.
+fn make_trace(bytes: &[u8]) -> Result<(), String> {
+    match &text::parse(&read_text()?)?[..] {
+        [list] => print(&trace::encode(list, bytes)),
+        lists => Err(format!("a trace holds one list, not {}", lists.len())),
+    }
+}
+
+/// Writes traces and what the Rust makes of them: N.trace and N.listing.
+fn make_traces(seed: u64, count: u64, folder: &str) -> Result<(), String> {
+    for (at, file) in trace::traces(seed, count).iter().enumerate() {
+        let path = format!("{folder}/{}", at + 1);
+        fs::write(format!("{path}.trace"), file).map_err(said)?;
+        fs::write(format!("{path}.listing"), trace::listing(file)).map_err(said)?;
+    }
+    Ok(())
+}
+
+fn read_bytes() -> Result<Vec<u8>, String> {
     let mut bytes = Vec::new();
     io::stdin().lock().read_to_end(&mut bytes).map_err(said)?;
-    calls::decode(&bytes)
+    Ok(bytes)
+}
+
+fn read_calls() -> Result<Vec<calls::List>, String> {
+    calls::decode(&read_bytes()?)
 }
 
 fn read_text() -> Result<String, String> {

@@ -1,0 +1,10 @@
+pub mod Digits
+pub mod TextLaws
+pub mod Size
+pub mod SlotLaws
+pub mod EventLaws
+pub mod LineLaws
+pub mod Kept
+pub mod WalkLaws
+pub mod ListingLaws
+pub mod Cases

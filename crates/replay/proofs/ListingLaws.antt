@@ -1,0 +1,157 @@
+-- The listing of a file, from the walk over its events; and what `replay` leaves. Assumes nothing.
+use mathlib.Core.Path.{_≡_, refl, sym, ap, _∙_, subst}
+use mathlib.Core.Bool.{Bool, true, false}
+use mathlib.Core.List.{List, [], _∷_, _++_}
+use Prim.Native.Nat.{ℕ, zero, suc, _+_, _-_, _≤_, _<_}
+use native.Mathlib.Nat.{zero-add}
+use native.Mathlib.Omega.{arith}
+use borrow.Author.Tests.{lt-leb, le-leb}
+use lib.Dec.{leb}
+use lib.ListN.{length, take, drop, replicate, length-replicate, length-append, length-drop}
+use lib.Seq.{sets, sets-eq, length-take-le}
+use Rattle.laws.specs.Tests.{pick}
+use Rattle.buffer_pool.specs.declared.buffer_pool.BufferPool.{BufferPool}
+use Rattle.buffer_pool.specs.declared.buffer_pool.Called.{Called}
+use Rattle.buffer_pool.specs.Moves.{Memories, memories}
+use Rattle.buffer_pool.specs.Soundness.{sound}
+use Rattle.buffer_pool.specs.Calls.{Outcome, outcome, new}
+use Rattle.trace.specs.declared.Header.{Header}
+use Rattle.trace.specs.declared.Answer as trace
+use Rattle.trace.specs.declared.Answer.the-variants.{Trace, BadHeader, BadEvent}
+use Rattle.trace.specs.Trace.{reading, byteOffset}
+use Rattle.trace.specs.Content.{Content, content, headerFor}
+use Rattle.trace.proofs.Accepted.{accepted-use, headed-use, header-content}
+use Rattle.replay.specs.declared.event.State.{State}
+use Rattle.replay.specs.declared.Answer.{Answer}
+use Rattle.replay.specs.declared.Answer.the-variants.{Listed, TooShort}
+use Rattle.replay.specs.Text.{Output, output, wrote}
+use Rattle.replay.specs.Run.{Running, running}
+use Rattle.replay.specs.Listing.{firstLine, lines, begunOn, listingOn, zeros, listingOf, refusedNine, refusedTen, listingBy, listing, Replayed, replayed, delivered}
+use Rattle.replay.proofs.TextLaws.{sets-past, after}
+use Rattle.replay.proofs.Kept.{new-sound}
+
+-- ---- The run from a new pool
+
+-- the state before the first event
+abbrev fresh : BufferPool → State
+fresh r = record { pool = r; next = 0; tally = record { done = 0; refused = 0; takes = 0; spilled = 0 } }
+
+module _ (m n : Memories) (c : Called) (q : outcome c n [] ≡ new 8 m) where
+  pub fresh-sound : sound 8 (c .pool) ≡ true
+  fresh-sound = ap (λ (o : Outcome). sound 8 (o .call .pool)) q ∙ new-sound m
+
+  fresh-begun : (d : List ℕ) → running (fresh (c .pool)) n d ≡ begunOn m d
+  unfolding begunOn
+  fresh-begun d = ap (λ (o : Outcome). running (fresh (o .call .pool)) (o .memory) d) q
+
+  pub run-listed : (d bytes : List ℕ) (file : Content) (o p r : Output) → p ≡ wrote o (firstLine (length (m .pool)) (length (m .overflow)))
+      → bytes ≡ file .bytes → r ≡ wrote p (lines bytes (running (fresh (c .pool)) n d) 0 (file .events)) → r ≡ wrote o (listingOn m d file)
+  unfolding listingOn
+  run-listed d bytes file o p r x b y =
+      after o p r _ _ x y
+      ∙ rw (b, fresh-begun d) refl
+
+pub bytes-few : (file bytes : List ℕ) → bytes ≡ content file .bytes → length bytes ≤ length file
+unfolding content
+bytes-few file bytes e = rw (e, length-drop (byteOffset file) file) (omega arith)
+
+-- ---- An accepted file
+
+take-zeros : (n k : ℕ) → n ≤ k → take {A = ℕ} n (replicate k 0) ≡ replicate n 0
+take-zeros zero k l = refl
+take-zeros (suc n) zero l = absurd (omega arith)
+take-zeros (suc n) (suc k) l = ap (λ (x : List ℕ). 0 ∷ x) (take-zeros n k (omega arith))
+
+module _ (file : List ℕ) (h : Header) (e : reading file ≡ Trace h) where
+  pub trace-capacity : h .capacity ≤ 16384
+  trace-capacity = let f = accepted-use file h e in subst (λ (x : Header). x .capacity ≤ 16384) (f .2) (headed-use file (f .0) .capacity-within)
+
+  pub trace-overflow : h .overflow ≤ 16384
+  trace-overflow = let f = accepted-use file h e in subst (λ (x : Header). x .overflow ≤ 16384) (f .2) (headed-use file (f .0) .overflow-within)
+
+  pub trace-length : length file ≤ 65536
+  trace-length = headed-use file (accepted-use file h e .0) .within
+
+  pub trace-events : h .events ≡ length (content file .events)
+  trace-events = sym (ap (λ (x : Header). x .events) (header-content file h e))
+
+-- the first n bytes of a memory of zeros
+pub part-long : (n : ℕ) (z : List ℕ) → 16384 ≡ length z → n ≤ 16384 → n ≡ length (take n z)
+part-long n z e h = sym (length-take-le n z (omega arith))
+
+module _ (file : List ℕ) (h : Header) (e : reading file ≡ Trace h) where
+  -- the memories that the code lends
+  module _ (z z′ z″ : List ℕ) (u : z ≡ zeros) (u′ : z′ ≡ zeros) (u″ : z″ ≡ zeros) where
+    part-zeros : (n : ℕ) → n ≤ 16384 → (l : List ℕ) → l ≡ zeros → take n l ≡ replicate n 0
+    unfolding zeros
+    part-zeros n k l x = rw x (take-zeros n 16384 k)
+
+    pub trace-listed : (o r : Output)
+        → r ≡ wrote o (listingOn (memories (take (h .capacity) z) (take (h .overflow) z′)) (take (h .overflow) z″) (content file))
+        → r ≡ wrote o (listingOf (content file))
+    unfolding listingOf
+    trace-listed o r x =
+        let c : h .capacity ≡ content file .capacity = sym (ap (λ (y : Header). y .capacity) (header-content file h e)) in
+        let v : h .overflow ≡ content file .overflow = sym (ap (λ (y : Header). y .overflow) (header-content file h e)) in
+        x
+        ∙ rw (part-zeros (h .capacity) (trace-capacity file h e) z u, part-zeros (h .overflow) (trace-overflow file h e) z′ u′, part-zeros (h .overflow) (trace-overflow file h e) z″ u″, c, v) refl
+
+-- ---- Every file
+
+module _ (file : List ℕ) (a : trace.Answer) (e : a ≡ reading file) where
+  pub read-trace : (h : Header) → a ≡ Trace h → reading file ≡ Trace h
+  read-trace h t = sym e ∙ t
+
+  pub listing-trace : (h : Header) → a ≡ Trace h → (o r : Output) → r ≡ wrote o (listingOf (content file)) → r ≡ wrote o (listing file)
+  unfolding listing listingBy
+  listing-trace h t o r x = x ∙ rw (← e, t) refl
+
+  pub listing-nine : a ≡ BadHeader → (o r : Output) → r ≡ wrote o refusedNine → r ≡ wrote o (listing file)
+  unfolding listing listingBy
+  listing-nine t o r x = x ∙ rw (← e, t) refl
+
+  pub listing-ten : (event : ℕ) → a ≡ BadEvent event → (o r : Output) → r ≡ wrote o (refusedTen event) → r ≡ wrote o (listing file)
+  unfolding listing listingBy
+  listing-ten event t o r x = x ∙ rw (← e, t) refl
+
+-- ---- What replay leaves
+
+-- the first walk measures, and stores nothing in an output of no bytes
+module _ (text none : List ℕ) (n : ℕ) (e : output n none ≡ wrote (output 0 []) text) where
+  pub measured : n ≡ length text
+  unfolding wrote
+  measured = ap (λ (o : Output). o .at) e ∙ zero-add (length text)
+
+  nothing-stored : none ≡ []
+  unfolding wrote
+  nothing-stored = ap (λ (o : Output). o .bytes) e ∙ sets-past text [] 0 (omega arith)
+
+  pub too-short : (out : List ℕ) → length (none ++ out) < n → replayed (TooShort n) (none ++ out) ≡ delivered text out
+  unfolding delivered
+  too-short out h = rw nothing-stored (rw (← measured, lt-leb n (length out) (rw nothing-stored at h)) refl)
+
+  -- the second writes
+  pub all-listed : (out new : List ℕ) (k : ℕ) → n ≤ length (none ++ out) → output k new ≡ wrote (output 0 (none ++ out)) text
+      → replayed (Listed n) new ≡ delivered text out
+  unfolding delivered wrote
+  all-listed out new k h w =
+      let l : length text ≤ length out = omega (arith, measured, rw nothing-stored at h) in
+      let v : output k new ≡ output (0 + length text) (sets out 0 text) = rw nothing-stored at w in
+      let s : new ≡ text ++ drop (length text) out = ap (λ (o : Output). o .bytes) v ∙ sets-eq text out 0 (omega arith) ∙ rw (zero-add (length text)) refl in
+      rw (le-leb (length text) (length out) l, measured, s) refl
+
+-- the length that is answered is within the output
+pub listed-within : (text out new : List ℕ) (n : ℕ) → replayed (Listed n) new ≡ delivered text out → n ≤ length new
+unfolding delivered
+listed-within text out new n e = go (leb (length text) (length out)) e
+  where
+    go : (t : Bool) → replayed (Listed n) new ≡ pick t (replayed (Listed (length text)) (text ++ drop (length text) out)) (replayed (TooShort (length text)) out)
+        → n ≤ length new
+    go true w =
+        let x : new ≡ text ++ drop (length text) out = ap (λ (r : Replayed). r .output) w in
+        let y : Listed n ≡ Listed (length text) = ap (λ (r : Replayed). r .answer) w in
+        let z : n ≡ length text = cc in
+        rw (x, z, length-append text (drop (length text) out)) (omega arith)
+    go false w =
+        let y : Listed n ≡ TooShort (length text) = ap (λ (r : Replayed). r .answer) w in
+        let z : _≡_ {A = ℕ} 0 1 = cc in absurd (omega arith)

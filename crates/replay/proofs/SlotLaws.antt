@@ -1,0 +1,85 @@
+-- The slots that the loops of slots.rt have passed, and what they know where they return. Assumes nothing.
+use mathlib.Core.Path.{_≡_, refl, sym, ap, _∙_, subst}
+use mathlib.Core.Bool.{Bool, true, false, not, _&&_}
+use mathlib.Core.List.{List}
+use Prim.Native.Nat.{ℕ, zero, suc, _+_, _-_, _*_, _≤_, _<_}
+use native.Mathlib.Numerals.{add-one}
+use native.Mathlib.Omega.{arith}
+use borrow.Author.Tests.{eq-eqb, ne-eqb}
+use lib.Dec.{eqb}
+use lib.ListN.{getD}
+use Rattle.laws.specs.Tests.{pick}
+use Rattle.laws.specs.Live.{liveAt}
+use Rattle.laws.proofs.Tests.{not-true, not-false}
+use Rattle.buffer_pool.specs.declared.slice.Handle.{Handle}
+use Rattle.buffer_pool.specs.declared.buffer_pool.BufferPool.{BufferPool}
+use Rattle.buffer_pool.specs.Record.{startAt}
+use Rattle.replay.specs.Slots.{bears, slotFrom, slotOf, handleAt, handleOf, heldAt, heldFrom, held}
+
+-- ---- A serial's slot
+
+module _ (live : ℕ) (serials : List ℕ) (serial p : ℕ) (l : Bool) (e : l ≡ liveAt 8 live p) where
+  pub bears-dead : not l ≡ true → false ≡ bears live serials serial p
+  unfolding bears
+  bears-dead h = rw (← e, not-true l h)
+
+  pub bears-live : not l ≡ false → eqb (getD serials (p - 1) 0) serial ≡ bears live serials serial p
+  unfolding bears
+  bears-live h = rw (← e, not-false l h)
+
+module _ (live : ℕ) (serials : List ℕ) (serial p : ℕ) (h : 1 ≤ p) (k : p ≤ 8) (b : Bool) (e : b ≡ bears live serials serial p)
+    (i : slotFrom live serials serial 1 8 ≡ slotFrom live serials serial p (9 - p)) where
+  step-slot : slotFrom live serials serial p (9 - p) ≡ pick b p (slotFrom live serials serial (suc p) (8 - p))
+  unfolding slotFrom
+  step-slot = let z : 9 - p ≡ suc (8 - p) = omega arith in rw (z, ← e) refl
+
+  pub slot-here : b ≡ true → (r : BufferPool) → r .live ≡ live → r .serials ≡ serials → p ≡ slotOf r serial
+  unfolding slotOf
+  slot-here t r u v = rw (u, v, i, step-slot, t) refl
+
+  pub slot-more : b ≡ false → slotFrom live serials serial 1 8 ≡ slotFrom live serials serial (p + 1) (9 - (p + 1))
+  slot-more f = let z : 9 - (p + 1) ≡ 8 - p = omega arith in rw (i, step-slot, f, z, add-one p) refl
+
+pub slot-none : (live : ℕ) (serials : List ℕ) (serial p : ℕ) → 8 < p → p ≤ 9
+    → slotFrom live serials serial 1 8 ≡ slotFrom live serials serial p (9 - p)
+    → (r : BufferPool) → r .live ≡ live → r .serials ≡ serials → 0 ≡ slotOf r serial
+unfolding slotOf slotFrom
+slot-none live serials serial p h k i r u v = let z : 9 - p ≡ 0 = omega arith in sym (rw (u, v, i, z) refl)
+
+module _ (r : BufferPool) (serial p : ℕ) (e : p ≡ slotOf r serial) where
+  pub handle-none : p ≡ 0 → record { slot = 0; start = 0; length = 0; serial = serial } ≡ handleOf r serial
+  unfolding handleOf handleAt
+  handle-none z = rw (← e, z) refl
+
+  pub handle-some : (p ≡ 0 → ⊥)
+      → record { slot = p; start = getD (r .starts) (p - 1) 0; length = getD (r .lengths) (p - 1) 0; serial = serial } ≡ handleOf r serial
+  unfolding handleOf handleAt
+  handle-some n = rw (← e, ne-eqb p 0 n) refl
+
+-- ---- Held bytes
+
+module _ (live : ℕ) (lengths : List ℕ) (p : ℕ) (l : Bool) (e : l ≡ liveAt 8 live p) where
+  pub held-dead : not l ≡ true → 0 ≡ heldAt live lengths p
+  unfolding heldAt
+  held-dead h = rw (← e, not-true l h)
+
+  pub held-live : not l ≡ false → (n : ℕ) → n ≡ getD lengths (p - 1) 0 → n ≡ heldAt live lengths p
+  unfolding heldAt
+  held-live h n q = rw (← e, not-false l h) q
+
+pub held-more : (live : ℕ) (lengths : List ℕ) (total p n : ℕ) → 1 ≤ p → p ≤ 8 → n ≡ heldAt live lengths p
+    → total + heldFrom live lengths p (9 - p) ≡ heldFrom live lengths 1 8
+    → total + n + heldFrom live lengths (p + 1) (9 - (p + 1)) ≡ heldFrom live lengths 1 8
+unfolding heldFrom
+held-more live lengths total p n h k e i =
+    let z : 9 - p ≡ suc (8 - p) = omega arith in
+    let y : 9 - (p + 1) ≡ 8 - p = omega arith in
+    rw (y, add-one p, e) (omega (arith, rw z at i))
+
+pub held-all : (live : ℕ) (lengths : List ℕ) (total p : ℕ) → 8 < p → p ≤ 9
+    → total + heldFrom live lengths p (9 - p) ≡ heldFrom live lengths 1 8
+    → (r : BufferPool) → r .live ≡ live → r .lengths ≡ lengths → total ≡ held r
+unfolding heldFrom held
+held-all live lengths total p h k i r u v =
+    let z : 9 - p ≡ 0 = omega arith in
+    rw (u, v) (omega (arith, rw z at i))

@@ -1,0 +1,62 @@
+-- `event::taken` meets its contract. Assumes nothing.
+use Rattle.replay.proofs.EventLaws.{taken-copied}
+use borrow.Author.Needs.{needs}
+use Rattle.replay.proofs.event.taken.Statement.{statement}
+use Rattle.replay.proofs.event.taken.Tie as tie
+
+enum-told : tie.Need-enum-told
+enum-told c = search needs
+
+enum-told-2 : tie.Need-enum-told-2
+enum-told-2 c = search needs
+
+enum-told-3 : tie.Need-enum-told-3
+enum-told-3 c = search needs
+
+enum-told-4 : tie.Need-enum-told-4
+enum-told-4 c = search needs
+
+enum-known-answer : tie.Need-enum-known-answer
+enum-known-answer c = search needs
+
+some-requires : tie.Need-some-requires
+some-requires c κs = search needs
+
+enum-told-5 : tie.Need-enum-told-5
+enum-told-5 c = search needs
+
+returns : tie.Need-returns
+returns c = search needs
+
+returns-2 : tie.Need-returns-2
+returns-2 c = search needs
+
+returns-3 : tie.Need-returns-3
+returns-3 c = search needs
+
+returns-4 : tie.Need-returns-4
+returns-4 c = search needs
+
+returns-5 : tie.Need-returns-5
+returns-5 c = (search taken-copied, search needs)
+
+returns-6 : tie.Need-returns-6
+returns-6 c = search needs
+
+pub taken-spec : {M : Type 1} → statement M
+taken-spec =
+    tie.close
+    (tie.spec
+    enum-told
+    enum-told-2
+    enum-told-3
+    enum-told-4
+    enum-known-answer
+    some-requires
+    enum-told-5
+    returns
+    returns-2
+    returns-3
+    returns-4
+    returns-5
+    returns-6)

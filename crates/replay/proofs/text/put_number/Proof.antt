@@ -1,0 +1,20 @@
+-- `text::put_number` meets its contract. Assumes nothing.
+use Rattle.replay.proofs.TextLaws.{space-after}
+use borrow.Author.Needs.{needs}
+use Rattle.replay.proofs.text.put_number.Statement.{statement}
+use Rattle.replay.proofs.text.put_number.Tie as tie
+
+put-requires : tie.Need-put-requires
+put-requires c κs = search needs
+
+put-decimal-requires : tie.Need-put-decimal-requires
+put-decimal-requires c κs = search needs
+
+same-length : tie.Need-same-length
+same-length c = search needs
+
+returns : tie.Need-returns
+returns c = (search space-after, search needs)
+
+pub put-number-spec : {M : Type 1} → statement M
+put-number-spec = tie.close (tie.spec put-requires put-decimal-requires same-length returns)

@@ -1,0 +1,47 @@
+-- Document 01's example: its listing, byte for byte. proofs/Cases.antt has the theorem.
+use mathlib.Core.List.{List, [], _∷_, _++_}
+use Prim.Native.Nat.{ℕ}
+use Rattle.buffer_pool.specs.Computing as pool
+use Rattle.trace.specs.Cases as trace
+use Rattle.trace.specs.Content.{content, eventsFrom}
+use Rattle.replay.specs.Text.{places, decimal, hex, signed, spaced}
+use Rattle.replay.specs.Slots.{bears, slotFrom, slotOf, handleAt, handleOf, heldAt, heldFrom, held}
+use Rattle.replay.specs.Run.{counted, percent, kindLetter, startsOf, shownOf, fills, filling, filled, callOf, stepOf, step}
+use Rattle.replay.specs.Listing.{firstLine, moveOf, lineHead, line, lastLine, lines, begunOn, listingOn, listingOf, refusedNine, refusedTen, listingBy, listing}
+
+unfoldable pub printed : List ℕ
+printed =
+    -- pool 16 overflow 12
+    112 ∷ 111 ∷ 111 ∷ 108 ∷ 32 ∷ 49 ∷ 54 ∷ 32 ∷ 111 ∷ 118 ∷ 101 ∷ 114 ∷ 102 ∷ 108 ∷ 111 ∷ 119 ∷ 32 ∷ 49 ∷ 50 ∷ 10
+    -- 1 r 0 B 00 0 6 0
+    ∷ 49 ∷ 32 ∷ 114 ∷ 32 ∷ 48 ∷ 32 ∷ 66 ∷ 32 ∷ 48 ∷ 48 ∷ 32 ∷ 48 ∷ 32 ∷ 54 ∷ 32 ∷ 48 ∷ 10
+    -- 2 c 0 B 00 0 6 0
+    ∷ 50 ∷ 32 ∷ 99 ∷ 32 ∷ 48 ∷ 32 ∷ 66 ∷ 32 ∷ 48 ∷ 48 ∷ 32 ∷ 48 ∷ 32 ∷ 54 ∷ 32 ∷ 48 ∷ 10
+    -- 3 t 0 B 80 0 6 0
+    ∷ 51 ∷ 32 ∷ 116 ∷ 32 ∷ 48 ∷ 32 ∷ 66 ∷ 32 ∷ 56 ∷ 48 ∷ 32 ∷ 48 ∷ 32 ∷ 54 ∷ 32 ∷ 48 ∷ 10
+    -- 4 r 4 B 80 0 0 0
+    ∷ 52 ∷ 32 ∷ 114 ∷ 32 ∷ 52 ∷ 32 ∷ 66 ∷ 32 ∷ 56 ∷ 48 ∷ 32 ∷ 48 ∷ 32 ∷ 48 ∷ 32 ∷ 48 ∷ 10
+    -- 5 r 0 B 80 6 8 0
+    ∷ 53 ∷ 32 ∷ 114 ∷ 32 ∷ 48 ∷ 32 ∷ 66 ∷ 32 ∷ 56 ∷ 48 ∷ 32 ∷ 54 ∷ 32 ∷ 56 ∷ 32 ∷ 48 ∷ 10
+    -- 6 c 5 B 80 0 0 0
+    ∷ 54 ∷ 32 ∷ 99 ∷ 32 ∷ 53 ∷ 32 ∷ 66 ∷ 32 ∷ 56 ∷ 48 ∷ 32 ∷ 48 ∷ 32 ∷ 48 ∷ 32 ∷ 48 ∷ 10
+    -- 7 c 0 B 80 6 4 0
+    ∷ 55 ∷ 32 ∷ 99 ∷ 32 ∷ 48 ∷ 32 ∷ 66 ∷ 32 ∷ 56 ∷ 48 ∷ 32 ∷ 54 ∷ 32 ∷ 52 ∷ 32 ∷ 48 ∷ 10
+    -- 8 r 0 A 80 4 7 0
+    ∷ 56 ∷ 32 ∷ 114 ∷ 32 ∷ 48 ∷ 32 ∷ 65 ∷ 32 ∷ 56 ∷ 48 ∷ 32 ∷ 52 ∷ 32 ∷ 55 ∷ 32 ∷ 48 ∷ 10
+    -- 9 k 0 A 80 0 3 0
+    ∷ 57 ∷ 32 ∷ 107 ∷ 32 ∷ 48 ∷ 32 ∷ 65 ∷ 32 ∷ 56 ∷ 48 ∷ 32 ∷ 48 ∷ 32 ∷ 51 ∷ 32 ∷ 48 ∷ 10
+    -- 10 t 0 A 80 0 3 0
+    ∷ 49 ∷ 48 ∷ 32 ∷ 116 ∷ 32 ∷ 48 ∷ 32 ∷ 65 ∷ 32 ∷ 56 ∷ 48 ∷ 32 ∷ 48 ∷ 32 ∷ 51 ∷ 32 ∷ 48 ∷ 10
+    -- 11 d 0 A 00 0 6 0
+    ∷ 49 ∷ 49 ∷ 32 ∷ 100 ∷ 32 ∷ 48 ∷ 32 ∷ 65 ∷ 32 ∷ 48 ∷ 48 ∷ 32 ∷ 48 ∷ 32 ∷ 54 ∷ 32 ∷ 48 ∷ 10
+    -- 12 r 0 B 00 0 16 0
+    ∷ 49 ∷ 50 ∷ 32 ∷ 114 ∷ 32 ∷ 48 ∷ 32 ∷ 66 ∷ 32 ∷ 48 ∷ 48 ∷ 32 ∷ 48 ∷ 32 ∷ 49 ∷ 54 ∷ 32 ∷ 48 ∷ 10
+    -- T 10 2 50 0
+    ∷ 84 ∷ 32 ∷ 49 ∷ 48 ∷ 32 ∷ 50 ∷ 32 ∷ 53 ∷ 48 ∷ 32 ∷ 48 ∷ 10
+    ∷ []
+
+-- opens what a listing unfolds to, for computing
+unfoldable pub definitions : Unit {0}
+unfolding pool.definitions trace.definitions content eventsFrom places decimal hex signed spaced bears slotFrom slotOf handleAt handleOf heldAt heldFrom held counted percent kindLetter startsOf shownOf fills filling filled callOf stepOf step firstLine moveOf lineHead line lastLine lines begunOn listingOn listingOf refusedNine refusedTen listingBy listing
+definitions = tt

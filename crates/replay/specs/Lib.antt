@@ -1,0 +1,5 @@
+pub mod Text
+pub mod Slots
+pub mod Run
+pub mod Listing
+pub mod Cases

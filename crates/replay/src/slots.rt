@@ -1,0 +1,107 @@
+// What the run reads off the slots of the pool's record: the slice that a serial names, and the bytes held.
+ghost use mathlib.Core.Path.{_≡_};
+ghost use Prim.Native.Nat.{_≤_, _<_, _^_};
+ghost use Rattle.laws.specs.Live.{slotMask, liveAt};
+ghost use Rattle.replay.specs.Slots as spec;
+use buffer_pool::buffer_pool::BufferPool;
+use buffer_pool::slice::Handle;
+
+// The bit of slot `p`.
+fn mask(p: u8) -> u8
+    requires { ⌜ (1 ≤ p) × (p ≤ 8) ⌝ }
+    ensures { λ r. ⌜ r ≡ slotMask 8 p ⌝ }
+{
+    0x80u8 >> (p - 1)
+}
+
+// Is slot `p` live?
+fn is_live(live: u8, p: u8) -> bool
+    requires { ⌜ (1 ≤ p) × (p ≤ 8) ⌝ }
+    ensures { λ r. ⌜ r ≡ liveAt 8 live p ⌝ }
+{
+    live & mask(p) != 0
+}
+
+// Is slot `p` live, and has it this serial?
+fn bears(live: u8, serials: [u32; 8], serial: u32, p: u8) -> bool
+    requires { ⌜ (1 ≤ p) × (p ≤ 8) ⌝ }
+    ensures { λ r. ⌜ r ≡ spec.bears live serials serial p ⌝ }
+{
+    if !is_live(live, p) {
+        return false;
+    }
+    serials[p as usize - 1] == serial
+}
+
+// The first live slot with this serial, and 0 where no live one has it.
+fn slot_of(r: BufferPool, serial: u32) -> u8
+    ensures { λ p. ⌜ (p ≡ spec.slotOf r serial) × (p ≤ 8) ⌝ }
+{
+    let live = r.live;
+    let serials = r.serials;
+    let mut p = 1;
+    while p <= 8 {
+        if bears(live, serials, serial, p) {
+            return p;
+        }
+        p += 1;
+    }
+    0
+}
+
+// The handle of the live slice with this serial, and one of no slot where no live slice has it.
+pub(crate) fn handle_of(r: BufferPool, serial: u32) -> Handle
+    ensures { λ h. ⌜ h ≡ spec.handleOf r serial ⌝ }
+{
+    let p = slot_of(r, serial);
+    if p == 0 {
+        return Handle {
+            slot: 0,
+            start: 0,
+            length: 0,
+            serial: serial,
+        };
+    }
+    let i = p as usize - 1;
+    let starts = r.starts;
+    let lengths = r.lengths;
+    Handle {
+        slot: p,
+        start: starts[i],
+        length: lengths[i],
+        serial: serial,
+    }
+}
+
+// A length as a wider number.
+fn wide(x: u32) -> u64
+    ensures { λ r. ⌜ (r ≡ x) × (r < 2 ^ 32) ⌝ }
+{
+    x as u64
+}
+
+// The length of slot `p`'s slice, and 0 where it is free.
+fn held_at(live: u8, lengths: [u32; 8], p: u8) -> u64
+    requires { ⌜ (1 ≤ p) × (p ≤ 8) ⌝ }
+    ensures { λ r. ⌜ (r ≡ spec.heldAt live lengths p) × (r < 2 ^ 32) ⌝ }
+{
+    if !is_live(live, p) {
+        return 0;
+    }
+    wide(lengths[p as usize - 1])
+}
+
+// The held bytes: the sum of the lengths of the live slices.
+pub(crate) fn held(r: BufferPool) -> u64
+    ensures { λ n. ⌜ n ≡ spec.held r ⌝ }
+{
+    let live = r.live;
+    let lengths = r.lengths;
+    let mut total = 0;
+    let mut p = 1;
+    while p <= 8 {
+        total += held_at(live, lengths, p);
+        p += 1;
+    }
+    total
+}

@@ -1,0 +1,246 @@
+//! Traces: written from a list, run on the Rust, and made good and damaged from a seed. The listing
+//! is document 01's, "The trace and poolreplay".
+
+use crate::calls::{Event, List, View};
+use crate::generate;
+use crate::judge::Judge;
+use crate::random::Random;
+
+/// The longest file, the longest memory, and the bytes of header and event.
+const FILE_LIMIT: usize = 65_536;
+const MEMORY_LIMIT: u32 = 16_384;
+const HEADER: usize = 24;
+const EVENT: usize = 8;
+
+/// The trace with the list's sizes and calls, and these bytes. Writes have no place in a trace.
+pub fn encode(list: &List, bytes: &[u8]) -> Vec<u8> {
+    let events: Vec<[u8; EVENT]> = list.events.iter().filter_map(event_bytes).collect();
+    let count = events.len() as u32;
+    let header =
+        [list.capacity, list.overflow, count, HEADER as u32, bytes.len() as u32, 24 + 8 * count];
+    let mut file: Vec<u8> = header.iter().flat_map(|number| number.to_le_bytes()).collect();
+    file.extend(events.concat());
+    file.extend(bytes);
+    file
+}
+
+/// Kind, three zeros, number. A length above 32 bits becomes the longest.
+fn event_bytes(event: &Event) -> Option<[u8; EVENT]> {
+    let (kind, number) = match *event {
+        Event::Reserve(len) => (1, len),
+        Event::Commit(len) => (2, len),
+        Event::Take(_) => (3, 0),
+        Event::Truncate(len) => (4, len),
+        Event::Release(serial) => (5, u64::from(serial)),
+        Event::Write { .. } => return None,
+    };
+    let number = (number.min(u64::from(u32::MAX)) as u32).to_le_bytes();
+    Some([kind, 0, 0, 0, number[0], number[1], number[2], number[3]])
+}
+
+/// Why a file is refused: 9, or 10 with the event counted from 1.
+#[derive(Debug, PartialEq)]
+enum Refusal {
+    File,
+    Event(usize),
+}
+
+/// The list and the bytes of a trace. 9 comes before 10.
+fn decode(file: &[u8]) -> Result<(List, &[u8]), Refusal> {
+    if file.len() < HEADER || file.len() > FILE_LIMIT {
+        return Err(Refusal::File);
+    }
+    let number = |at: usize| u32::from_le_bytes(file[at..at + 4].try_into().expect("four bytes"));
+    let (capacity, overflow, count) = (number(0), number(4), number(8));
+    let events_end = HEADER as u64 + EVENT as u64 * u64::from(count);
+    let sound = capacity <= MEMORY_LIMIT
+        && overflow <= MEMORY_LIMIT
+        && number(12) == HEADER as u32
+        && u64::from(number(20)) == events_end
+        && events_end + u64::from(number(16)) == file.len() as u64;
+    if !sound {
+        return Err(Refusal::File);
+    }
+    let (events, bytes) = file[HEADER..].split_at(EVENT * count as usize);
+    let events = events.chunks(EVENT).enumerate();
+    let events = events
+        .map(|(at, event)| decode_event(event, overflow).ok_or(Refusal::Event(at + 1)))
+        .collect::<Result<_, _>>()?;
+    Ok((List { capacity, overflow, events }, bytes))
+}
+
+/// The event, if it is one. A take's destination is as long as the overflow.
+fn decode_event(bytes: &[u8], overflow: u32) -> Option<Event> {
+    let number = u32::from_le_bytes(bytes[4..].try_into().expect("four bytes"));
+    match (bytes[0], &bytes[1..4], number) {
+        (1, [0, 0, 0], len) => Some(Event::Reserve(len.into())),
+        (2, [0, 0, 0], len) => Some(Event::Commit(len.into())),
+        (3, [0, 0, 0], 0) => Some(Event::Take(overflow.into())),
+        (4, [0, 0, 0], len) => Some(Event::Truncate(len.into())),
+        (5, [0, 0, 0], serial) => Some(Event::Release(serial)),
+        _ => None,
+    }
+}
+
+/// What `poolreplay` must print for this file, by the Rust.
+pub fn listing(file: &[u8]) -> String {
+    match decode(file) {
+        Err(Refusal::File) => "refused 9\n".into(),
+        Err(Refusal::Event(at)) => format!("refused 10 {at}\n"),
+        Ok((list, bytes)) => run(&list, bytes),
+    }
+}
+
+fn run(list: &List, mut bytes: &[u8]) -> String {
+    let mut judge = Judge::new(list.capacity, list.overflow);
+    let mut out = format!("pool {} overflow {}\n", list.capacity, list.overflow);
+    let (mut refused, mut taken, mut copied) = (0, 0, 0);
+    for (at, event) in list.events.iter().enumerate() {
+        let before = judge.situation();
+        if let Event::Commit(len) = *event {
+            bytes = fill(&mut judge, len, bytes);
+        }
+        let answer = judge.apply(event);
+        let record = judge.situation().record;
+        let pooled = before.record.mode.letter() != 'A' && record.mode.letter() != 'A';
+        let moved = match event {
+            Event::Reserve(_) if pooled => {
+                record.frame_start as i64 - before.record.frame_start as i64
+            }
+            _ => 0,
+        };
+        refused += usize::from(answer.refusal != 0);
+        if matches!(event, Event::Take(_)) && answer.len > 0 {
+            taken += 1;
+            copied += usize::from(!answer.copied.is_empty());
+        }
+        let (letter, refusal, mode) = (event.letter(), answer.refusal, record.mode.letter());
+        let (live, start, len) = (record.live, answer.start, answer.len);
+        out += &format!("{} {letter} {refusal} {mode} {live:02x} {start} {len} {moved}\n", at + 1);
+    }
+    let percent = (copied * 100usize).checked_div(taken).unwrap_or(0);
+    let held: usize = judge.slices().map(|(_, bytes)| bytes.len()).sum();
+    out + &format!("T {} {refused} {percent} {held}\n", list.events.len() - refused)
+}
+
+/// Copies what a commit takes of the trace's bytes into the reservation; gives the rest.
+fn fill<'a>(judge: &mut Judge, len: u64, bytes: &'a [u8]) -> &'a [u8] {
+    if len > judge.situation().reserved as u64 {
+        return bytes;
+    }
+    let (now, later) = bytes.split_at(bytes.len().min(len as usize));
+    for (index, &value) in (0..).zip(now) {
+        judge.apply(&Event::Write { view: View::Reservation, index, value });
+    }
+    later
+}
+
+/// The traces of a seed: two of full size, then lists of the generator, every second one damaged.
+pub fn traces(seed: u64, count: u64) -> Vec<Vec<u8>> {
+    let mut random = Random::new(seed);
+    let options = generate::Options { seed, count, capacity: 40, events: 120, cover: 0 };
+    let lists = generate::lists(&options);
+    let mut files = vec![full(&lists, 40, 1), full(&lists, MEMORY_LIMIT, 400)];
+    for (at, list) in lists.iter().enumerate() {
+        let bytes: Vec<u8> = (0..random.below(400)).map(|_| random.below(256) as u8).collect();
+        let mut file = encode(list, &bytes);
+        if at % 2 == 1 {
+            damage(&mut file, at / 2, &mut random);
+        }
+        files.push(file);
+    }
+    files
+}
+
+/// A trace of the longest file: memories of this length, the events of the lists one after the
+/// other, and their lengths `times` as long.
+fn full(lists: &[List], length: u32, times: u64) -> Vec<u8> {
+    let longer = |event: &Event| match *event {
+        Event::Reserve(len) => Some(Event::Reserve(len.saturating_mul(times))),
+        Event::Commit(len) => Some(Event::Commit(len.saturating_mul(times))),
+        Event::Truncate(len) => Some(Event::Truncate(len.saturating_mul(times))),
+        Event::Write { .. } => None,
+        event => Some(event),
+    };
+    let most = (FILE_LIMIT - HEADER) / EVENT;
+    let events = lists.iter().flat_map(|list| &list.events).filter_map(longer).take(most).collect();
+    encode(&List { capacity: length, overflow: length, events }, &[])
+}
+
+/// Damages a file in the way of this number: header fields, its end, or one of its events.
+fn damage(file: &mut Vec<u8>, way: usize, random: &mut Random) {
+    let events = (file[8] as usize | (file[9] as usize) << 8).max(1);
+    let event = HEADER + EVENT * random.below(events as u64) as usize;
+    let ways = 24;
+    match way % ways {
+        field @ 0..=11 => {
+            let at = field / 2 * 4;
+            let number = u32::from_le_bytes(file[at..at + 4].try_into().expect("four bytes"));
+            let other =
+                if field % 2 == 0 { number.wrapping_add(1) } else { number.wrapping_sub(1) };
+            file[at..at + 4].copy_from_slice(&other.to_le_bytes());
+        }
+        12 => drop(file.pop()),
+        13 => file.push(0),
+        14 => file.truncate(random.below(30) as usize),
+        15 => file[..4].copy_from_slice(&(MEMORY_LIMIT + 1).to_le_bytes()),
+        16 => file[4..8].copy_from_slice(&(MEMORY_LIMIT + 1).to_le_bytes()),
+        17 => file.resize(FILE_LIMIT + 1, 0),
+        18 => set(file, event, 0),
+        19 => set(file, event, 6),
+        20 => set(file, event + random.within(1, 3) as usize, 1),
+        21 => {
+            set(file, event, 3);
+            set(file, event + 4 + random.below(4) as usize, 1);
+        }
+        22 => {
+            set(file, event, 255);
+            file.push(0);
+        }
+        _ => file.clear(),
+    }
+}
+
+/// Sets a byte, if the file reaches so far.
+fn set(file: &mut [u8], at: usize, value: u8) {
+    if let Some(byte) = file.get_mut(at) {
+        *byte = value;
+    }
+}
+
+#[cfg(test)]
+mod tests {
+    use super::*;
+    use crate::text;
+
+    fn example() -> Vec<u8> {
+        let list = text::parse(
+            "pool 16 overflow 12
+             r 6; c 6; t; r 13; r 8; c 9; c 4; r 7; k 3; t; d 1; r 16",
+        );
+        encode(&list.expect("a good text")[0], b"abcdefghij")
+    }
+
+    #[test]
+    fn the_listing_of_document_01() {
+        assert_eq!(listing(&example()), crate::cases::LISTING);
+    }
+
+    #[test]
+    fn every_damage_to_the_file_is_9_and_to_an_event_10() {
+        let refused = |at: usize, byte: u8| {
+            let mut file = example();
+            file[at] = byte;
+            listing(&file)
+        };
+        for at in [2, 6, 8, 12, 16, 20] {
+            assert_eq!(refused(at, 1), "refused 9\n", "byte {at}");
+        }
+        for at in [24, 25, 26, 27] {
+            assert_eq!(refused(at, 9), "refused 10 1\n", "byte {at}");
+        }
+        assert_eq!(refused(24 + 2 * 8 + 7, 1), "refused 10 3\n");
+        assert_eq!(listing(&example()[..121]), "refused 9\n");
+        assert_eq!(listing(&[]), "refused 9\n");
+    }
+}
