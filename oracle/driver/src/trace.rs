@@ -135,12 +135,15 @@ fn fill<'a>(judge: &mut Judge, len: u64, bytes: &'a [u8]) -> &'a [u8] {
     later
 }
 
-/// The traces of a seed: two of full size, then lists of the generator, every second one damaged.
+/// The traces of a seed: two of full size, one without events, then lists of the generator, every
+/// second one damaged.
 pub fn traces(seed: u64, count: u64) -> Vec<Vec<u8>> {
     let mut random = Random::new(seed);
     let options = generate::Options { seed, count, capacity: 40, events: 120, cover: 0 };
     let lists = generate::lists(&options);
-    let mut files = vec![full(&lists, 40, 1), full(&lists, MEMORY_LIMIT, 400)];
+    let empty = List { capacity: 5, overflow: 3, events: Vec::new() };
+    let mut files =
+        vec![full(&lists, 40, 1), full(&lists, MEMORY_LIMIT, 400), encode(&empty, b"unused")];
     for (at, list) in lists.iter().enumerate() {
         let bytes: Vec<u8> = (0..random.below(400)).map(|_| random.below(256) as u8).collect();
         let mut file = encode(list, &bytes);
