@@ -32,12 +32,13 @@ use Rattle.buffer_pool.specs.Soundness as test
 use Rattle.buffer_pool.specs.Sound.{InMode, Orderly, Sound}
 use Rattle.buffer_pool.specs.Steps.{refusal, called, at, frameOf, frame, reservation, reserveOn, reserveStep, resized, reframed, refused, commitStep, truncateStep, mostSerials, nextHandle, handedOut, longer, takeOn, takeStep, takeMoves, names, releaseStep}
 use Rattle.buffer_pool.specs.Calls.{Outcome, outcome, copiedOut, View, shown, hidden, memoryAt, bytesAt, written}
+use Rattle.buffer_pool.specs.Causes.{Part, TheFrame, TheReservation, TheSlice, Call, Reserve, Commit, Truncate, Take, Release, Look, viewOf}
 use Rattle.buffer_pool.proofs.Soundness.{sound-make}
 use Rattle.buffer_pool.proofs.Unchanged.{Fixed, fixed, place-capacity, place-overflow, place-live, place-serials, place-starts, place-lengths}
 use Rattle.buffer_pool.proofs.Ranges.{orderly-claim}
 use Rattle.buffer_pool.proofs.SoundKept.{Step, step, step-orderly, step-sizes}
 use Rattle.buffer_pool.proofs.SoundKept as kept
-use Rattle.book.specs.Events.{Viewed, Reservation, Frame, Slice, Call, Reserve, Commit, Truncate, Take, Release, Look, Event, Own, Other, Write, State, viewOf, call, next}
+use Rattle.book.specs.Events.{Event, Own, Other, Write, State, call, next}
 use Rattle.book.specs.Book.{Pair, pair, Book, book, note, noteWrite, answered, noted}
 use Rattle.book.specs.Demand3.{Member, sliceOf}
 use Rattle.book.proofs.Carried.{Sized, pooled}
@@ -59,7 +60,7 @@ module _ {w : ℕ} {r : BufferPool} {m : Memories} {b : Book} (G : Agrees w r m 
   pub agrees-tested : test.sound w r ≡ true
   agrees-tested = sound-make w r (G .sound)
 
-  pub agrees-view : (v : Viewed) → viewOf w r m v ≡ plainView w r v
+  pub agrees-view : (v : Part) → viewOf w r m v ≡ plainView w r v
   agrees-view = view-own w r m agrees-tested (sized-fits r m (G .sized))
 
   pub agrees-call : (c : Call) → call w r m c ≡ plain w r m c
@@ -284,7 +285,7 @@ module _ (w : ℕ) (r : BufferPool) (m : Memories) (b : Book) (G : Agrees w r m 
           }
       go false e N = G
 
-  look-agrees : (v : Viewed) → After w b (Look v) (plain w r m (Look v))
+  look-agrees : (v : Part) → After w b (Look v) (plain w r m (Look v))
   look-agrees v = go (eqb (refusal (plain w r m (Look v) .call .answer)) 0)
     where
       go : (t : Bool) → Agrees w r m (pick t b b)
@@ -304,8 +305,8 @@ module _ (w : ℕ) (r : BufferPool) (m : Memories) (b : Book) (G : Agrees w r m 
   offer-frame : Off (reservation r) (frame r)
   offer-frame = above (le-refl _)
 
-  write-agrees : (v : Viewed) (i byte : ℕ) → Agrees w r (written m (plainView w r v .place) i byte) (noteWrite b v i byte)
-  write-agrees Frame i byte =
+  write-agrees : (v : Part) (i byte : ℕ) → Agrees w r (written m (plainView w r v .place) i byte) (noteWrite b v i byte)
+  write-agrees TheFrame i byte =
       record {
         sound = G .sound;
         sized = written-sized m i byte (frame r) (G .sized);
@@ -315,7 +316,7 @@ module _ (w : ℕ) (r : BufferPool) (m : Memories) (b : Book) (G : Agrees w r m 
             booked-beside (G .booked)
             (λ y j. written-off m i byte (frame r) (sliceOf y) (slice-frame w r S (y .handle) (G .booked .named y j)));
       }
-  write-agrees Reservation i byte =
+  write-agrees TheReservation i byte =
       record {
         sound = G .sound;
         sized = written-sized m i byte (reservation r) (G .sized);
@@ -325,11 +326,11 @@ module _ (w : ℕ) (r : BufferPool) (m : Memories) (b : Book) (G : Agrees w r m 
             booked-beside (G .booked)
             (λ y j. written-off m i byte (reservation r) (sliceOf y) (slice-offer w r S (y .handle) (G .booked .named y j)));
       }
-  write-agrees (Slice h) i byte = go (names w r h) refl
+  write-agrees (TheSlice h) i byte = go (names w r h) refl
     where
       at-slice : (p : Place) → (Named w (fixed r) h → p ≡ at Pool (h .start) (h .length)) → Off p (frame r)
           → Off p (reservation r) → ((y : Pair) → Member y (b .pairs) → y .handle ≢ h → Off (sliceOf y) p)
-          → Agrees w r (written m p i byte) (noteWrite b (Slice h) i byte)
+          → Agrees w r (written m p i byte) (noteWrite b (TheSlice h) i byte)
       at-slice p is f o off =
           record {
             sound = G .sound;
@@ -341,7 +342,7 @@ module _ (w : ℕ) (r : BufferPool) (m : Memories) (b : Book) (G : Agrees w r m 
 
       go : (t : Bool) → names w r h ≡ t
           → Agrees w r (written m (pick t (shown (at Pool (h .start) (h .length))) (hidden 7) .place) i byte)
-          (noteWrite b (Slice h) i byte)
+          (noteWrite b (TheSlice h) i byte)
       go true e =
           let N = names-use w r h e in
           at-slice (at Pool (h .start) (h .length)) (λ n. refl) (slice-frame w r S h N) (slice-offer w r S h N)

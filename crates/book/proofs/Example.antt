@@ -10,8 +10,9 @@ use Rattle.buffer_pool.specs.Record.{slotCount}
 use Rattle.buffer_pool.specs.Moves.{memories}
 use Rattle.buffer_pool.specs.Steps.{at, frame, reservation}
 use Rattle.buffer_pool.specs.Calls.{bytesAt}
+use Rattle.buffer_pool.specs.Causes.{TheFrame, TheReservation, TheSlice, Reserve, Commit, Truncate, Take, Release, Look, viewOf}
 use Rattle.buffer_pool.specs.Computing.{definitions}
-use Rattle.book.specs.Events.{Reservation, Frame, Slice, Reserve, Commit, Truncate, Take, Release, Look, Event, Own, Other, Write, State, opened, happens, next}
+use Rattle.book.specs.Events.{Event, Own, Other, Write, State, opened, happens, next}
 use Rattle.book.specs.Book.{Pair, pair, Book, book, emptyBook, sameHandle, without, rewritten, noted}
 use Rattle.book.specs.Demand3.{sliceOf}
 
@@ -51,25 +52,25 @@ invented = record { slot = 1; start = 0; length = 2; serial = 2 }
 lines : List Line
 lines =
     line (Own (Reserve 3)) (Reserved (at Pool 0 3) 0) (book [] (0 ∷ 0 ∷ 0 ∷ []) [])
-    ∷ line (Write Reservation 1 7) Done (book [] (0 ∷ 7 ∷ 0 ∷ []) [])
+    ∷ line (Write TheReservation 1 7) Done (book [] (0 ∷ 7 ∷ 0 ∷ []) [])
     ∷ line (Own (Commit 4)) (Refused 5) (book [] (0 ∷ 7 ∷ 0 ∷ []) [])
     ∷ line (Own (Commit 2)) (Framed (at Pool 0 2)) (book (0 ∷ 7 ∷ []) [] [])
     ∷ line (Own (Take [])) (Taken first) (book [] [] (pair first (0 ∷ 7 ∷ []) ∷ []))
     ∷ line (Own (Reserve 3)) (Reserved (at Overflow 0 3) 1) (book [] (0 ∷ 0 ∷ 0 ∷ []) (pair first (0 ∷ 7 ∷ []) ∷ []))
-    ∷ line (Write (Slice first) 0 6) Done (book [] (0 ∷ 0 ∷ 0 ∷ []) (pair first (6 ∷ 7 ∷ []) ∷ []))
-    ∷ line (Write (Slice invented) 0 8) Done (book [] (0 ∷ 0 ∷ 0 ∷ []) (pair first (6 ∷ 7 ∷ []) ∷ []))
-    ∷ line (Write Reservation 0 5) Done (book [] (5 ∷ 0 ∷ 0 ∷ []) (pair first (6 ∷ 7 ∷ []) ∷ []))
+    ∷ line (Write (TheSlice first) 0 6) Done (book [] (0 ∷ 0 ∷ 0 ∷ []) (pair first (6 ∷ 7 ∷ []) ∷ []))
+    ∷ line (Write (TheSlice invented) 0 8) Done (book [] (0 ∷ 0 ∷ 0 ∷ []) (pair first (6 ∷ 7 ∷ []) ∷ []))
+    ∷ line (Write TheReservation 0 5) Done (book [] (5 ∷ 0 ∷ 0 ∷ []) (pair first (6 ∷ 7 ∷ []) ∷ []))
     ∷ line (Own (Commit 3)) (Framed (at Overflow 0 3)) (book (5 ∷ 0 ∷ 0 ∷ []) [] (pair first (6 ∷ 7 ∷ []) ∷ []))
     ∷ line (Own (Truncate 1)) (Framed (at Overflow 0 1)) (book (5 ∷ []) [] (pair first (6 ∷ 7 ∷ []) ∷ []))
-    ∷ line (Write Frame 1 9) Done (book (5 ∷ []) [] (pair first (6 ∷ 7 ∷ []) ∷ []))
+    ∷ line (Write TheFrame 1 9) Done (book (5 ∷ []) [] (pair first (6 ∷ 7 ∷ []) ∷ []))
     ∷ line (Own (Take [])) (Refused 6) (book (5 ∷ []) [] (pair first (6 ∷ 7 ∷ []) ∷ []))
     ∷ line (Own (Take (1 ∷ 2 ∷ []))) (Copied 1) (book [] [] (pair first (6 ∷ 7 ∷ []) ∷ []))
-    ∷ line (Own (Look (Slice first))) (Framed (at Pool 0 2)) (book [] [] (pair first (6 ∷ 7 ∷ []) ∷ []))
+    ∷ line (Own (Look (TheSlice first))) (Framed (at Pool 0 2)) (book [] [] (pair first (6 ∷ 7 ∷ []) ∷ []))
     ∷ line (Own (Release invented)) (Refused 7) (book [] [] (pair first (6 ∷ 7 ∷ []) ∷ []))
     ∷ line (Other (memories [] []) (Release first)) (Refused 2) (book [] [] (pair first (6 ∷ 7 ∷ []) ∷ []))
     ∷ line (Own (Release first)) Done (book [] [] [])
     ∷ line (Own (Release first)) (Refused 7) (book [] [] [])
-    ∷ line (Write (Slice first) 0 8) Done (book [] [] [])
+    ∷ line (Write (TheSlice first) 0 8) Done (book [] [] [])
     ∷ []
 
 entries : List Line → List Event
@@ -77,5 +78,5 @@ entries [] = []
 entries (l ∷ ls) = l .entry ∷ entries ls
 
 example : told (opened slotCount (memories (9 ∷ 9 ∷ 9 ∷ 9 ∷ []) (4 ∷ 3 ∷ 2 ∷ 1 ∷ []))) emptyBook (entries lines) ≡ lines
-unfolding told entries lines definitions sameHandle without rewritten
+unfolding told entries lines definitions viewOf sameHandle without rewritten
 example = refl

@@ -27,12 +27,13 @@ use Rattle.buffer_pool.specs.Soundness.{sound}
 use Rattle.buffer_pool.specs.Sound.{InMode, Orderly}
 use Rattle.buffer_pool.specs.Steps.{refusal, called, frameOf, frame, mostSerials, takeOn, takeStep, copiedLength}
 use Rattle.buffer_pool.specs.Calls.{Outcome, outcome, new, copiedOut, shown, hidden, memoryAt, bytesAt}
+use Rattle.buffer_pool.specs.Causes.{TheFrame, TheReservation, TheSlice, Take}
 use Rattle.buffer_pool.proofs.Soundness.{sound-use}
 use Rattle.buffer_pool.proofs.Order.{none-held}
 use Rattle.buffer_pool.proofs.Unchanged.{fixed}
 use Rattle.buffer_pool.proofs.Ranges.{bytesFor, orderly-inside}
 use Rattle.buffer_pool.proofs.SoundKept.{sound-new}
-use Rattle.book.specs.Events.{Reservation, Frame, Slice, Take, Event, State, opened, next}
+use Rattle.book.specs.Events.{Event, State, opened, next}
 use Rattle.book.specs.Book.{Pair, Book, emptyBook, noted}
 use Rattle.book.specs.Demand3.{Member, sliceOf, Apart, AllApart, Shows, Kept, Always}
 use Rattle.book.proofs.Places.{off-apart}
@@ -72,12 +73,12 @@ module _ (w : ℕ) (s : State) (b : Book) (G : Agrees w (s .pool) (s .lent) b) w
   ends : frame r .start + frame r .length + r .reserved ≤ length (memoryAt (frame r .memory) m)
   ends = omega (arith, orderly-inside w r S .gathered, room (r .mode))
 
-  slice-shows : (x : Pair) → Member x (b .pairs) → Shows w s (Slice (x .handle)) (sliceOf x) (x .bytes)
+  slice-shows : (x : Pair) → Member x (b .pairs) → Shows w s (TheSlice (x .handle)) (sliceOf x) (x .bytes)
   slice-shows x i =
       let N = G .booked .named x i in
       record {
         view =
-            agrees-view G (Slice (x .handle))
+            agrees-view G (TheSlice (x .handle))
             ∙ ap (λ (t : Bool). pick t (shown (sliceOf x)) (hidden 7)) (names-make w r (x .handle) N);
         inside =
             omega (
@@ -139,8 +140,8 @@ module _ (w : ℕ) (s : State) (b : Book) (G : Agrees w (s .pool) (s .lent) b) w
         live = λ x i. names-make w r (x .handle) (G .booked .named x i);
         booked = G .booked .known;
         slices = slice-shows;
-        gathered = record { view = agrees-view G Frame; inside = omega (arith, ends); holds = G .gathered };
-        offered = record { view = agrees-view G Reservation; inside = ends; holds = G .offered };
+        gathered = record { view = agrees-view G TheFrame; inside = omega (arith, ends); holds = G .gathered };
+        offered = record { view = agrees-view G TheReservation; inside = ends; holds = G .offered };
         apart = all-apart (b .pairs) (G .booked .named) (G .booked .once);
         apart-frame = λ x i. off-apart (slice-frame w r S (x .handle) (G .booked .named x i));
         apart-reservation = λ x i. off-apart (slice-offer w r S (x .handle) (G .booked .named x i));

@@ -15,14 +15,15 @@ use Rattle.buffer_pool.specs.Placing.{place, tooLong}
 use Rattle.buffer_pool.specs.Soundness.{sound}
 use Rattle.buffer_pool.specs.Steps.{called, refused, at, frame, reservation, reserveStep, commitStep, truncateStep, takeStep, copiedLength, names, releaseStep}
 use Rattle.buffer_pool.specs.Calls.{Outcome, outcome, misfit, reserve, commit, truncate, copiedOut, take, release, View, shown, hidden, frameView, reservationView, sliceView}
+use Rattle.buffer_pool.specs.Causes.{Part, TheFrame, TheReservation, TheSlice, Call, Reserve, Commit, Truncate, Take, Release, Look, viewOf}
 use Rattle.buffer_pool.proofs.Unchanged.{fixed}
-use Rattle.book.specs.Events.{Viewed, Reservation, Frame, Slice, Call, Reserve, Commit, Truncate, Take, Release, Look, viewOf, viewAnswer, call}
+use Rattle.book.specs.Events.{viewAnswer, call}
 use Rattle.book.proofs.Carried.{Sized}
 
-abbrev pub plainView : ℕ → BufferPool → Viewed → View
-plainView w r Reservation = shown (reservation r)
-plainView w r Frame = shown (frame r)
-plainView w r (Slice h) = pick (names w r h) (shown (at Pool (h .start) (h .length))) (hidden 7)
+abbrev pub plainView : ℕ → BufferPool → Part → View
+plainView w r TheReservation = shown (reservation r)
+plainView w r TheFrame = shown (frame r)
+plainView w r (TheSlice h) = pick (names w r h) (shown (at Pool (h .start) (h .length))) (hidden 7)
 
 -- a take with this step
 abbrev pub plainTake : BufferPool → Memories → List ℕ → Called → Outcome
@@ -43,11 +44,11 @@ sized-fits r m Z =
     rw (eq-eqb (length (m .pool)) (r .capacity) (Z .pool-is), eq-eqb (length (m .overflow)) (r .overflow) (Z .overflow-is))
 
 module _ (w : ℕ) (r : BufferPool) (m : Memories) (e : sound w r ≡ true) where
-  pub view-own : misfit r m ≡ false → (v : Viewed) → viewOf w r m v ≡ plainView w r v
-  unfolding reservationView frameView sliceView
-  view-own f Reservation = rw (e, f)
-  view-own f Frame = rw (e, f)
-  view-own f (Slice h) = rw (e, f)
+  pub view-own : misfit r m ≡ false → (v : Part) → viewOf w r m v ≡ plainView w r v
+  unfolding viewOf reservationView frameView sliceView
+  view-own f TheReservation = rw (e, f)
+  view-own f TheFrame = rw (e, f)
+  view-own f (TheSlice h) = rw (e, f)
 
   pub call-own : misfit r m ≡ false → (c : Call) → call w r m c ≡ plain w r m c
   unfolding reserve commit truncate take release
@@ -58,11 +59,11 @@ module _ (w : ℕ) (r : BufferPool) (m : Memories) (e : sound w r ≡ true) wher
   call-own f (Release h) = rw (e, f)
   call-own f (Look v) = ap (λ (x : View). outcome (called r (viewAnswer (x .number) (x .place))) m []) (view-own f v)
 
-  view-other : misfit r m ≡ true → (v : Viewed) → viewOf w r m v ≡ hidden 2
-  unfolding reservationView frameView sliceView
-  view-other f Reservation = rw (e, f)
-  view-other f Frame = rw (e, f)
-  view-other f (Slice h) = rw (e, f)
+  view-other : misfit r m ≡ true → (v : Part) → viewOf w r m v ≡ hidden 2
+  unfolding viewOf reservationView frameView sliceView
+  view-other f TheReservation = rw (e, f)
+  view-other f TheFrame = rw (e, f)
+  view-other f (TheSlice h) = rw (e, f)
 
   pub call-other : misfit r m ≡ true → (c : Call) → call w r m c .call ≡ refused r 2
   unfolding reserve commit truncate take release

@@ -11,7 +11,8 @@ use Rattle.buffer_pool.specs.Moves.{Memories}
 use Rattle.buffer_pool.specs.Soundness.{sound}
 use Rattle.buffer_pool.specs.Steps.{refusal, called, frame, reservation, takeStep}
 use Rattle.buffer_pool.specs.Calls.{Outcome, misfit, new, copiedOut, View, shown, reservationView}
-use Rattle.book.specs.Events.{Reservation, Frame, Call, Reserve, Commit, Truncate, Take, Release, Look, Event, Own, Other, Write, State, opened, call, happens, next}
+use Rattle.buffer_pool.specs.Causes.{TheFrame, TheReservation, Call, Reserve, Commit, Truncate, Take, Release, Look, viewOf}
+use Rattle.book.specs.Events.{Event, Own, Other, Write, State, opened, call, happens, next}
 use Rattle.book.specs.Book.{Book, emptyBook, noted}
 use Rattle.book.specs.Demand3.{blankMemories, blankCall, calls, Seen, seenAt, seen}
 use Rattle.book.proofs.Plain.{plain, call-own, call-other}
@@ -29,9 +30,10 @@ abbrev plainSeen : Called → Seen
 plainSeen c = seenWith c (shown (frame (c .pool))) (shown (reservation (c .pool)))
 
 seen-plain : (w : ℕ) (o : Outcome) (b : Book) → Agrees w (o .call .pool) (o .memory) b → seenAt w o ≡ plainSeen (o .call)
+unfolding viewOf
 seen-plain w o b G =
-    ap (λ (f : View). seenWith (o .call) f (reservationView w (o .call .pool) (o .memory))) (agrees-view G Frame)
-    ∙ ap (seenWith (o .call) (shown (frame (o .call .pool)))) (agrees-view G Reservation)
+    ap (λ (f : View). seenWith (o .call) f (reservationView w (o .call .pool) (o .memory))) (agrees-view G TheFrame)
+    ∙ ap (seenWith (o .call) (shown (frame (o .call .pool)))) (agrees-view G TheReservation)
 
 -- ---- One call
 

@@ -12,7 +12,8 @@ use Rattle.buffer_pool.specs.declared.slice.Handle.{Handle}
 use Rattle.buffer_pool.specs.Moves.{Memories}
 use Rattle.buffer_pool.specs.Steps.{refusal}
 use Rattle.buffer_pool.specs.Calls.{bytesAt}
-use Rattle.book.specs.Events.{Viewed, Reservation, Frame, Slice, Call, Reserve, Commit, Truncate, Take, Release, Look, Event, Own, Other, Write, State, happens}
+use Rattle.buffer_pool.specs.Causes.{Part, TheFrame, TheReservation, TheSlice, Call, Reserve, Commit, Truncate, Take, Release, Look}
+use Rattle.book.specs.Events.{Event, Own, Other, Write, State, happens}
 
 pub record Pair : Type 0 where
   pub handle : Handle
@@ -71,10 +72,10 @@ noteCall b (Release h) a bytes = book (b .F) (b .R) (without h (b .pairs))
 noteCall b (Look v) a bytes = b
 
 -- "Write: that byte of R, F or the handle's bytes is set; past the view's end, none."
-abbrev pub noteWrite : Book → Viewed → ℕ → ℕ → Book
-noteWrite b Reservation i byte = book (b .F) (set (b .R) i byte) (b .pairs)
-noteWrite b Frame i byte = book (set (b .F) i byte) (b .R) (b .pairs)
-noteWrite b (Slice h) i byte = book (b .F) (b .R) (map (rewritten h i byte) (b .pairs))
+abbrev pub noteWrite : Book → Part → ℕ → ℕ → Book
+noteWrite b TheReservation i byte = book (b .F) (set (b .R) i byte) (b .pairs)
+noteWrite b TheFrame i byte = book (set (b .F) i byte) (b .R) (b .pairs)
+noteWrite b (TheSlice h) i byte = book (b .F) (b .R) (map (rewritten h i byte) (b .pairs))
 
 -- "refused calls change nothing", so neither does a call lent memories of other lengths
 abbrev pub note : Book → Event → Answer → List ℕ → Book

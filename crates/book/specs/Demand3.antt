@@ -14,7 +14,8 @@ use Rattle.buffer_pool.specs.Moves.{Memories, memories}
 use Rattle.buffer_pool.specs.Sound.{Held}
 use Rattle.buffer_pool.specs.Steps.{at, frame, reservation, names}
 use Rattle.buffer_pool.specs.Calls.{Outcome, misfit, View, shown, frameView, reservationView, memoryAt, bytesAt}
-use Rattle.book.specs.Events.{Viewed, Reservation, Frame, Slice, Call, Reserve, Commit, Truncate, Take, Release, Look, Event, Own, Other, Write, State, viewOf, call, happens, next}
+use Rattle.buffer_pool.specs.Causes.{Part, TheFrame, TheReservation, TheSlice, Call, Reserve, Commit, Truncate, Take, Release, Look, viewOf}
+use Rattle.book.specs.Events.{Event, Own, Other, Write, State, call, happens, next}
 use Rattle.book.specs.Book.{Pair, Book, noted}
 
 -- ---- The first part: the book is kept
@@ -42,7 +43,7 @@ AllApart [] = Unit
 AllApart (x ∷ pairs) = ((y : Pair) → Member y pairs → Apart (sliceOf x) (sliceOf y)) × AllApart pairs
 
 -- the view is not refused; it is of this place, which lies inside its memory and holds these bytes
-pub record Shows (w : ℕ) (s : State) (v : Viewed) (p : Place) (bytes : List ℕ) : Type 0 where
+pub record Shows (w : ℕ) (s : State) (v : Part) (p : Place) (bytes : List ℕ) : Type 0 where
   pub view : viewOf w (s .pool) (s .lent) v ≡ shown p
   pub inside : p .start + p .length ≤ length (memoryAt (p .memory) (s .lent))
   pub holds : bytesAt (s .lent) p ≡ bytes
@@ -55,9 +56,9 @@ pub record Kept (w : ℕ) (s : State) (b : Book) : Type 0 where
   pub booked : (p : ℕ) → Held w (s .pool .live) p → (x : Pair) × Member x (b .pairs) × (x .handle .slot ≡ p)
   -- "every live pooled slice lies inside the pool .. and shows exactly the bytes document 01's book has for it"; "frame,
   -- reservation .. show the book's bytes too"
-  pub slices : (x : Pair) → Member x (b .pairs) → Shows w s (Slice (x .handle)) (sliceOf x) (x .bytes)
-  pub gathered : Shows w s Frame (frame (s .pool)) (b .F)
-  pub offered : Shows w s Reservation (reservation (s .pool)) (b .R)
+  pub slices : (x : Pair) → Member x (b .pairs) → Shows w s (TheSlice (x .handle)) (sliceOf x) (x .bytes)
+  pub gathered : Shows w s TheFrame (frame (s .pool)) (b .F)
+  pub offered : Shows w s TheReservation (reservation (s .pool)) (b .R)
   -- "apart from every other live slice, frame and reservation"
   pub apart : AllApart (b .pairs)
   pub apart-frame : (x : Pair) → Member x (b .pairs) → Apart (sliceOf x) (frame (s .pool))

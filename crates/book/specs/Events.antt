@@ -6,36 +6,22 @@ use Rattle.buffer_pool.specs.declared.buffer_pool.BufferPool.{BufferPool}
 use Rattle.buffer_pool.specs.declared.buffer_pool.Place.{Place}
 use Rattle.buffer_pool.specs.declared.buffer_pool.Answer.{Answer}
 use Rattle.buffer_pool.specs.declared.buffer_pool.Answer.the-variants.{Done, Framed, Refused}
-use Rattle.buffer_pool.specs.declared.slice.Handle.{Handle}
 use Rattle.buffer_pool.specs.Moves.{Memories}
 use Rattle.buffer_pool.specs.Steps.{called}
-use Rattle.buffer_pool.specs.Calls.{Outcome, outcome, new, reserve, commit, truncate, take, release, View, frameView, reservationView, sliceView, written}
+use Rattle.buffer_pool.specs.Calls.{Outcome, outcome, new, reserve, commit, truncate, take, release, written}
+use Rattle.buffer_pool.specs.Causes.{Part, Call, Reserve, Commit, Truncate, Take, Release, Look, viewOf}
 
 -- ---- The entries
 
--- what a view shows: a slice by any handle, live, stale or invented
-pub data Viewed : Type 0 where
-  Reservation : Viewed
-  Frame : Viewed
-  Slice : Handle → Viewed
-
-pub data Call : Type 0 where
-  Reserve : ℕ → Call
-  Commit : ℕ → Call
-  Truncate : ℕ → Call
-  -- with any destination: its bytes as they are lent
-  Take : List ℕ → Call
-  -- with any handle
-  Release : Handle → Call
-  Look : Viewed → Call
-
+-- The calls are those of demands 1 and 2. A slice is viewed, and released, by any handle, live, stale or invented; a take has any
+-- destination, its bytes as they are lent.
 pub data Event : Type 0 where
   -- a call lent the pool's own memories
   Own : Call → Event
   -- a call lent these memories, of other lengths, in their place
   Other : Memories → Call → Event
   -- through this view, at this index, this byte
-  Write : Viewed → ℕ → ℕ → Event
+  Write : Part → ℕ → ℕ → Event
 
 -- ---- What an entry finds and leaves
 
@@ -51,17 +37,13 @@ state o = record { pool = o .call .pool; lent = o .memory }
 abbrev pub opened : ℕ → Memories → State
 opened w m = state (new w m)
 
-abbrev pub viewOf : ℕ → BufferPool → Memories → Viewed → View
-viewOf w r m Reservation = reservationView w r m
-viewOf w r m Frame = frameView w r m
-viewOf w r m (Slice h) = sliceView w r m h
-
 -- a view's answer, among the answers of the calls: its place (`Framed` is the answer that is a place), or its refusal
 abbrev pub viewAnswer : ℕ → Place → Answer
 viewAnswer zero place = Framed place
 viewAnswer (suc n) place = Refused (suc n)
 
--- what a call on a record and two lent memories leaves and answers, by its definition in buffer_pool
+-- what a call on a record and two lent memories leaves and answers, by its definition in buffer_pool: `outcomeOf` of Causes.antt,
+-- but that a view answers its place
 abbrev pub call : ℕ → BufferPool → Memories → Call → Outcome
 call w r m (Reserve len) = reserve w r m len
 call w r m (Commit n) = commit w r m n
