@@ -31,7 +31,8 @@ use Rattle.buffer_pool.specs.Placing.{Decision, place, tooLong}
 use Rattle.buffer_pool.specs.Soundness as test
 use Rattle.buffer_pool.specs.Sound.{InMode, Orderly, Sound}
 use Rattle.buffer_pool.specs.Steps.{refusal, called, at, frameOf, frame, reservation, reserveOn, reserveStep, resized, reframed, refused, commitStep, truncateStep, mostSerials, nextHandle, handedOut, longer, takeOn, takeStep, takeMoves, names, releaseStep}
-use Rattle.buffer_pool.specs.Calls.{Outcome, outcome, copiedOut, View, shown, hidden, memoryAt, bytesAt, written}
+use Rattle.buffer_pool.specs.declared.buffer_pool.View.{View}
+use Rattle.buffer_pool.specs.Calls.{Outcome, outcome, copiedOut, shown, hidden, memoryAt, bytesAt, written}
 use Rattle.buffer_pool.specs.Causes.{Part, TheFrame, TheReservation, TheSlice, Call, Reserve, Commit, Truncate, Take, Release, Look, viewOf}
 use Rattle.buffer_pool.proofs.Soundness.{sound-make}
 use Rattle.buffer_pool.proofs.Unchanged.{Fixed, fixed, place-capacity, place-overflow, place-live, place-serials, place-starts, place-lengths}

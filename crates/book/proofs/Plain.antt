@@ -14,7 +14,8 @@ use Rattle.buffer_pool.specs.Moves.{Memories, perform}
 use Rattle.buffer_pool.specs.Placing.{place, tooLong}
 use Rattle.buffer_pool.specs.Soundness.{sound}
 use Rattle.buffer_pool.specs.Steps.{called, refused, at, frame, reservation, reserveStep, commitStep, truncateStep, takeStep, copiedLength, names, releaseStep}
-use Rattle.buffer_pool.specs.Calls.{Outcome, outcome, misfit, reserve, commit, truncate, copiedOut, take, release, View, shown, hidden, frameView, reservationView, sliceView}
+use Rattle.buffer_pool.specs.declared.buffer_pool.View.{View}
+use Rattle.buffer_pool.specs.Calls.{Outcome, outcome, misfit, reserve, commit, truncate, copiedOut, take, release, shown, hidden, frameView, reservationView, sliceView}
 use Rattle.buffer_pool.specs.Causes.{Part, TheFrame, TheReservation, TheSlice, Call, Reserve, Commit, Truncate, Take, Release, Look, viewOf}
 use Rattle.buffer_pool.proofs.Unchanged.{fixed}
 use Rattle.book.specs.Events.{viewAnswer, call}

@@ -10,7 +10,8 @@ use Rattle.buffer_pool.specs.declared.buffer_pool.Called.{Called}
 use Rattle.buffer_pool.specs.Moves.{Memories}
 use Rattle.buffer_pool.specs.Soundness.{sound}
 use Rattle.buffer_pool.specs.Steps.{refusal, called, frame, reservation, takeStep}
-use Rattle.buffer_pool.specs.Calls.{Outcome, misfit, new, copiedOut, View, shown, reservationView}
+use Rattle.buffer_pool.specs.declared.buffer_pool.View.{View}
+use Rattle.buffer_pool.specs.Calls.{Outcome, misfit, new, copiedOut, shown, reservationView}
 use Rattle.buffer_pool.specs.Causes.{TheFrame, TheReservation, Call, Reserve, Commit, Truncate, Take, Release, Look, viewOf}
 use Rattle.book.specs.Events.{Event, Own, Other, Write, State, opened, call, happens, next}
 use Rattle.book.specs.Book.{Book, emptyBook, noted}

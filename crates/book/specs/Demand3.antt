@@ -13,7 +13,8 @@ use Rattle.buffer_pool.specs.declared.buffer_pool.Answer.the-variants.{Copied, 
 use Rattle.buffer_pool.specs.Moves.{Memories, memories}
 use Rattle.buffer_pool.specs.Sound.{Held}
 use Rattle.buffer_pool.specs.Steps.{at, frame, reservation, names}
-use Rattle.buffer_pool.specs.Calls.{Outcome, misfit, View, shown, frameView, reservationView, memoryAt, bytesAt}
+use Rattle.buffer_pool.specs.declared.buffer_pool.View.{View}
+use Rattle.buffer_pool.specs.Calls.{Outcome, misfit, shown, frameView, reservationView, memoryAt, bytesAt}
 use Rattle.buffer_pool.specs.Causes.{Part, TheFrame, TheReservation, TheSlice, Call, Reserve, Commit, Truncate, Take, Release, Look, viewOf}
 use Rattle.book.specs.Events.{Event, Own, Other, Write, State, call, happens, next}
 use Rattle.book.specs.Book.{Pair, Book, noted}

@@ -23,7 +23,8 @@ use Rattle.buffer_pool.specs.Record.{byteLimit}
 use Rattle.buffer_pool.specs.Moves.{Memories}
 use Rattle.buffer_pool.specs.Soundness.{sound}
 use Rattle.buffer_pool.specs.Steps.{refusal, reserveStep, commitStep, truncateStep, takeStep, names, releaseStep}
-use Rattle.buffer_pool.specs.Calls.{Outcome, View, new, reserve, commit, truncate, copiedOut, take as taken, release, written}
+use Rattle.buffer_pool.specs.declared.buffer_pool.View.{View}
+use Rattle.buffer_pool.specs.Calls.{Outcome, new, reserve, commit, truncate, copiedOut, take as taken, release, written}
 use Rattle.buffer_pool.specs.Rust.{Run, done, with, RustPool}
 use Rattle.buffer_pool.specs.AsRust.{Stands, Unrefused, replyOf, sliceOf, rustWritten}
 use Rattle.buffer_pool.specs.Causes.{Part, Call, Reserve, Commit, Truncate, Take, Release, Look, outcomeOf, numberOf, Result}

@@ -9,7 +9,7 @@ use mir.Val.{Fits}
 use mir.Syntax.{w64}
 use lib.Dec.{leb, ltb, eqb}
 use lib.ListN.{length, replicate, drop-of-length-le}
-use borrow.Author.Tests.{lt-ltb, le-ltb, eq-eqb, ne-eqb, eqb-true, ltb-false}
+use borrow.Author.Tests.{lt-ltb, le-ltb, eq-eqb, ne-eqb, leb-true, eqb-true, ltb-false}
 use Rattle.laws.specs.Tests.{pick}
 use Rattle.laws.specs.Lists.{copied, moved, zeroed}
 use Rattle.laws.proofs.Tests.{both-true, no-true, not-true, not-false}
@@ -21,17 +21,19 @@ use Rattle.buffer_pool.specs.declared.buffer_pool.Place.{Place}
 use Rattle.buffer_pool.specs.declared.buffer_pool.Answer.the-variants.{Done, Reserved, Refused}
 use Rattle.buffer_pool.specs.declared.buffer_pool.Called.{Called}
 use Rattle.buffer_pool.specs.declared.placing.Decided.{Decided}
-use Rattle.buffer_pool.specs.Record.{byteLimit, newRecord}
+use Rattle.buffer_pool.specs.Record.{byteLimit, newRecord, placed}
 use Rattle.buffer_pool.specs.Moves.{Memories, memories, act, perform, allInside}
 use Rattle.buffer_pool.specs.MoveList.{listed}
-use Rattle.buffer_pool.specs.Placing.{Decision, isAlloc, place, tooLong}
-use Rattle.buffer_pool.specs.Deciding.{frontLen, Placeable, Decides, decisionOf}
+use Rattle.buffer_pool.specs.Placing.{Decision, stays, isAlloc, resets, place, tooLong}
+use Rattle.buffer_pool.specs.Deciding.{frontLen, Placeable, Decides, decisionOf, keepsIn, fitsIn, settled, startsOver, growing, keptTo, offered}
 use Rattle.buffer_pool.specs.Soundness.{sound}
 use Rattle.buffer_pool.specs.Sound.{Orderly, InMode}
-use Rattle.buffer_pool.specs.Steps.{called, refused, at, frameOf, reservation, pooled, takeOn, takeStep, mostSerials, copiedLength, takeMoves, reserveOn, reserveStep, commitStep, truncateStep, releaseStep}
-use Rattle.buffer_pool.specs.Calls.{Outcome, outcome, misfit, guarded, cause, guardedCall, new, reserve, commit, truncate, copiedOut, take, release}
+use Rattle.buffer_pool.specs.Steps.{refusal, called, refused, at, frameOf, reservation, reserved, pooled, takeOn, takeStep, mostSerials, copiedLength, takeMoves, reserveOn, reserveStep, commitStep, truncateStep, releaseStep}
+use Rattle.buffer_pool.specs.Calls.{Outcome, outcome, misfit, guarded, numbered, cause, guardedCall, new, reserve, commit, truncate, copiedOut, take, release}
 use Rattle.buffer_pool.proofs.Soundness.{sound-use}
 use Rattle.buffer_pool.proofs.ByteLaws.{copied-none}
+use Rattle.buffer_pool.proofs.StepLaws.{commit-own, take-own, release-own}
+use Rattle.buffer_pool.proofs.Unmoved.{unmoved, settled-place, over-place, grown, growing-place}
 use Rattle.buffer_pool.proofs.MovesInside.{moves-inside}
 use Rattle.buffer_pool.proofs.ReserveKept.{place-orderly}
 use Rattle.buffer_pool.proofs.Unchanged.{place-capacity, place-overflow}
@@ -106,6 +108,9 @@ module _ (p : BufferPool) (m : Memories) (k : ℕ) (e : k ≡ cause 8 p m) where
     pub through-capacity : p .capacity ≤ 4294967295
     through-capacity = omega (arith, sound-use 8 p through-sound .capacity-limit)
 
+    pub through-back : p .«back_start» + p .«back_len» ≤ 8
+    through-back = through-orderly .ready .back-within
+
     pub through-pool : length (m .pool) ≡ p .capacity
     unfolding cause misfit
     through-pool = eqb-true (length (m .pool)) (p .capacity) (both-true _ _ (not-false _ (fits-by (sound 8 p) (misfit p m) (sym e ∙ z))) .0)
@@ -115,18 +120,51 @@ module _ (p : BufferPool) (m : Memories) (k : ℕ) (e : k ≡ cause 8 p m) where
     through-overflow =
         eqb-true (length (m .overflow)) (p .overflow) (both-true (eqb (length (m .pool)) (p .capacity)) _ (not-false _ (fits-by (sound 8 p) (misfit p m) (sym e ∙ z))) .1)
 
+-- ---- A call's own refusal
+
+module _ (p : BufferPool) (m : Memories) (own : ℕ) where
+  -- the number, from the guard's
+  module _ (k : ℕ) (e : k ≡ cause 8 p m) where
+    pub number-guarded : (k ≡ 0 → ⊥) → k ≡ numbered 8 p m own
+    unfolding cause numbered
+    number-guarded n = e ∙ guarded-by (sound 8 p) (misfit p m) (λ number. number) own (λ z. n (e ∙ z))
+
+    pub number-own : k ≡ 0 → (j : ℕ) → j ≡ own → j ≡ numbered 8 p m own
+    unfolding cause numbered
+    number-own z j f = f ∙ passed-by (sound 8 p) (misfit p m) (λ number. number) own (sym e ∙ z)
+
+  module _ (k : ℕ) (e : k ≡ numbered 8 p m own) where
+    -- a call that is refused with a number is refused by the guard or by its step
+    pub turned-own : (k ≡ 0 → ⊥) → (destination : List ℕ) (c : Called) (done : Outcome) → ((own ≡ 0 → ⊥) → done ≡ outcome (refused p own) m destination)
+        → c ≡ refused p k → outcome c m destination ≡ guardedCall 8 p m destination done
+    unfolding numbered
+    turned-own n destination c done d f = ap (λ (x : Called). outcome x m destination) (f ∙ ap (refused p) e) ∙ go (sound 8 p) (misfit p m) (λ z. n (e ∙ z))
+      where
+        go : (s f : Bool) → (pick (not s) 1 (pick f 2 own) ≡ 0 → ⊥)
+            → outcome (refused p (pick (not s) 1 (pick f 2 own))) m destination ≡ pick (not s) (outcome (refused p 1) m destination) (pick f (outcome (refused p 2) m destination) done)
+        go true true q = refl
+        go true false q = sym (d q)
+        go false f q = refl
+
+    pub none-guarded : k ≡ 0 → 0 ≡ cause 8 p m
+    unfolding cause numbered
+    none-guarded z = go (sound 8 p) (misfit p m) (sym e ∙ z)
+      where
+        go : (s f : Bool) → pick (not s) 1 (pick f 2 own) ≡ 0 → 0 ≡ number s f
+        go true true q = absurd (omega arith)
+        go true false q = refl
+        go false f q = absurd (omega arith)
+
+    pub own-orderly : k ≡ 0 → Orderly 8 p
+    own-orderly z = through-orderly p m 0 (none-guarded z) refl
+
+    pub own-capacity : k ≡ 0 → p .capacity ≤ 4294967295
+    own-capacity z = through-capacity p m 0 (none-guarded z) refl
+
 -- ---- The calls that move no byte
 
 module _ (p : BufferPool) (m : Memories) (k : ℕ) (e : k ≡ cause 8 p m) (c : Called) where
   module _ (n : ℕ) where
-    pub commit-turned : (k ≡ 0 → ⊥) → c ≡ refused p k → outcome c m [] ≡ commit 8 p m n
-    unfolding commit
-    commit-turned h f = turned-away p m k e h [] c (outcome (commitStep p n) m []) f
-
-    pub commit-through : k ≡ 0 → c ≡ commitStep p n → outcome c m [] ≡ commit 8 p m n
-    unfolding commit
-    commit-through z f = let-through p m k e z [] (outcome c m []) (outcome (commitStep p n) m []) (ap (λ (x : Called). outcome x m []) f)
-
     pub truncate-turned : (k ≡ 0 → ⊥) → c ≡ refused p k → outcome c m [] ≡ truncate 8 p m n
     unfolding truncate
     truncate-turned h f = turned-away p m k e h [] c (outcome (truncateStep p n) m []) f
@@ -135,14 +173,24 @@ module _ (p : BufferPool) (m : Memories) (k : ℕ) (e : k ≡ cause 8 p m) (c : 
     unfolding truncate
     truncate-through z f = let-through p m k e z [] (outcome c m []) (outcome (truncateStep p n) m []) (ap (λ (x : Called). outcome x m []) f)
 
-  module _ (h : Handle) where
+module _ (p : BufferPool) (m : Memories) (k : ℕ) (c : Called) where
+  module _ (n : ℕ) (e : k ≡ numbered 8 p m (refusal (commitStep p n .answer))) where
+    pub commit-turned : (k ≡ 0 → ⊥) → c ≡ refused p k → outcome c m [] ≡ commit 8 p m n
+    unfolding commit
+    commit-turned h f = turned-own p m _ k e h [] c (outcome (commitStep p n) m []) (λ o. ap (λ (x : Called). outcome x m []) (commit-own p n o)) f
+
+    pub commit-through : k ≡ 0 → c ≡ commitStep p n → outcome c m [] ≡ commit 8 p m n
+    unfolding commit
+    commit-through z f = let-through p m 0 (none-guarded p m _ k e z) refl [] (outcome c m []) (outcome (commitStep p n) m []) (ap (λ (x : Called). outcome x m []) f)
+
+  module _ (h : Handle) (e : k ≡ numbered 8 p m (refusal (releaseStep 8 p h .answer))) where
     pub release-turned : (k ≡ 0 → ⊥) → c ≡ refused p k → outcome c m [] ≡ release 8 p m h
     unfolding release
-    release-turned n f = turned-away p m k e n [] c (outcome (releaseStep 8 p h) m []) f
+    release-turned n f = turned-own p m _ k e n [] c (outcome (releaseStep 8 p h) m []) (λ o. ap (λ (x : Called). outcome x m []) (release-own p h o)) f
 
     pub release-through : k ≡ 0 → c ≡ releaseStep 8 p h → outcome c m [] ≡ release 8 p m h
     unfolding release
-    release-through z f = let-through p m k e z [] (outcome c m []) (outcome (releaseStep 8 p h) m []) (ap (λ (x : Called). outcome x m []) f)
+    release-through z f = let-through p m 0 (none-guarded p m _ k e z) refl [] (outcome c m []) (outcome (releaseStep 8 p h) m []) (ap (λ (x : Called). outcome x m []) f)
 
 -- ---- New
 
@@ -171,6 +219,9 @@ new-done pool overflow cleared h k z q e =
 
 pub reservation-as : (p : BufferPool) (f : Place) → f ≡ frameOf (p .mode) p → at (f .memory) (f .start + f .length) (p .reserved) ≡ reservation p
 reservation-as p f e = ap (λ (x : Place). at (x .memory) (x .start + x .length) (p .reserved)) e
+
+pub reserved-as : (p : BufferPool) (changes : ℕ) (f : Place) → f ≡ reservation p → record { pool = p; answer = Reserved f changes } ≡ reserved p changes
+reserved-as p changes f e = ap (λ (x : Place). called p (Reserved x changes)) e
 
 pub reservation-fits : (p : BufferPool) (f : Place) → f ≡ frameOf (p .mode) p → frameOf (p .mode) p .start + frameOf (p .mode) p .length ≤ 18446744073709551615
     → Fits w64 (f .start + f .length)
@@ -251,10 +302,88 @@ module _ (p : BufferPool) (m : Memories) (len k : ℕ) (e : k ≡ cause 8 p m) w
           (frame-end (place 8 p len .next) (place-orderly 8 p len (S .orderly) fits)
           (omega (arith, place-capacity 8 p len, S .capacity-limit)) (omega (arith, place-overflow 8 p len, S .overflow-limit)))
 
-      pub reserve-done : (n : Memories) → n ≡ perform (listed (d .moves)) m → (f : Place) → f ≡ reservation (d .pool)
-          → outcome (record { pool = d .pool; answer = Reserved f (d .changes) }) n [] ≡ reserve 8 p m len
+      pub reserve-done : (n : Memories) → n ≡ perform (listed (d .moves)) m → (c : Called) → c ≡ reserved (d .pool) (d .changes)
+          → outcome c n [] ≡ reserve 8 p m len
       unfolding reserve reserveStep reserveOn
-      reserve-done n g f h = let-through p m k e z [] _ _ (rw (fits, g, h, moves-is, next-is, changes-is))
+      reserve-done n g c h = let-through p m k e z [] _ _ (rw (fits, g, h, moves-is, next-is, changes-is))
+
+-- a reserve that moves no byte
+module _ (p : BufferPool) (m : Memories) (len k : ℕ) (e : k ≡ cause 8 p m) (z : k ≡ 0) where
+  unmoved-fits : (q : BufferPool) → q .overflow ≡ p .overflow → (isAlloc (q .mode) ≡ true → q .cursor + len ≤ q .overflow) → tooLong (unmoved q len) len ≡ false
+  unfolding tooLong
+  unmoved-fits q o h = go (isAlloc (q .mode)) h
+    where
+      go : (a : Bool) → (a ≡ true → q .cursor + len ≤ q .overflow) → (a && ltb (q .overflow) (q .cursor + len)) ≡ false
+      go true h = le-ltb (q .overflow) (q .cursor + len) (h refl)
+      go false h = refl
+
+  unmoved-done : (q : BufferPool) → place 8 p len ≡ unmoved q len → tooLong (unmoved q len) len ≡ false → (n : BufferPool) → n ≡ offered q len → (c : Called) → c ≡ reserved n 0 → outcome c m [] ≡ reserve 8 p m len
+  unfolding reserve reserveStep reserveOn perform
+  unmoved-done q d t n i c h = let-through p m k e z [] _ _ (rw (d, t, h, i))
+
+  unmoved-sum : (q : BufferPool) → place 8 p len ≡ unmoved q len → tooLong (unmoved q len) len ≡ false
+      → (n : BufferPool) → n ≡ offered q len → frameOf (n .mode) n .start + frameOf (n .mode) n .length ≤ 18446744073709551615
+  unmoved-sum q d t n i =
+      let S = sound-use 8 p (through-sound p m k e z) in
+      subst (λ (x : BufferPool). frameOf (x .mode) x .start + frameOf (x .mode) x .length ≤ 18446744073709551615) (ap (λ (x : Decision). x .next) d ∙ sym i)
+      (frame-end (place 8 p len .next) (place-orderly 8 p len (S .orderly) (ap (λ (x : Decision). tooLong x len) d ∙ t))
+      (omega (arith, place-capacity 8 p len, S .capacity-limit)) (omega (arith, place-overflow 8 p len, S .overflow-limit)))
+
+  module _ (b : Bool) (i : b ≡ settled 8 p len) (t : b ≡ true) where
+    kept-within : isAlloc (p .mode) ≡ true → p .cursor + len ≤ p .overflow
+    unfolding settled fitsIn
+    kept-within a = go (p .mode) a (both-true (not (resets p)) (fitsIn (p .mode) 8 p len) (sym i ∙ t) .1)
+      where
+        go : (mode : PoolMode) → isAlloc mode ≡ true → fitsIn mode 8 p len ≡ true → p .cursor + len ≤ p .overflow
+        go Back a h = absurd (no-true a)
+        go (Front f) a h = absurd (no-true a)
+        go Alloc a h =
+            omega (arith, leb-true (p .cursor + len + 0) (p .kept) (both-true (keepsIn 8 p) (leb (p .cursor + len + 0) (p .kept)) h .1), through-orderly p m k e z .kept-within)
+
+    module _ (n : BufferPool) (o : n ≡ offered p len) where
+      pub settled-sum : frameOf (n .mode) n .start + frameOf (n .mode) n .length ≤ 18446744073709551615
+      settled-sum = unmoved-sum p (settled-place p len (sym i ∙ t)) (unmoved-fits p refl kept-within) n o
+
+      pub reserve-settled : (c : Called) → c ≡ reserved n 0 → outcome c m [] ≡ reserve 8 p m len
+      reserve-settled = unmoved-done p (settled-place p len (sym i ∙ t)) (unmoved-fits p refl kept-within) n o
+
+  module _ (b : Bool) (i : b ≡ startsOver p len) (t : b ≡ true) (q : BufferPool) (j : q ≡ placed p Back 0 0 0 0) (n : BufferPool) (o : n ≡ offered q len) where
+    over-is : n ≡ offered (placed p Back 0 0 0 0) len
+    over-is = o ∙ ap (λ (x : BufferPool). offered x len) j
+
+    pub over-sum : frameOf (n .mode) n .start + frameOf (n .mode) n .length ≤ 18446744073709551615
+    over-sum = unmoved-sum (placed p Back 0 0 0 0) (over-place p len (sym i ∙ t)) (unmoved-fits (placed p Back 0 0 0 0) refl (λ a. absurd (no-true a))) n over-is
+
+    pub reserve-over : (c : Called) → c ≡ reserved n 0 → outcome c m [] ≡ reserve 8 p m len
+    reserve-over = unmoved-done (placed p Back 0 0 0 0) (over-place p len (sym i ∙ t)) (unmoved-fits (placed p Back 0 0 0 0) refl (λ a. absurd (no-true a))) n over-is
+
+-- a reserve that clears bytes after the kept ones
+pub past-kept : (p : BufferPool) (len : ℕ) (b : Bool) → b ≡ growing 8 p len → b ≡ true → p .kept ≤ p .cursor + len
+past-kept p len b i t = omega (arith, growing-place p len (sym i ∙ t) .2)
+
+module _ (p : BufferPool) (pool overflow : List ℕ) (len k : ℕ) (e : k ≡ cause 8 p (memories pool overflow)) (z : k ≡ 0) (b : Bool) (i : b ≡ growing 8 p len) (t : b ≡ true) where
+  grows : (place 8 p len ≡ grown p len) × (p .cursor + len ≤ p .overflow) × (p .kept < p .cursor + len)
+  grows = growing-place p len (sym i ∙ t)
+
+  grown-fits : tooLong (grown p len) len ≡ false
+  unfolding tooLong
+  grown-fits = le-ltb (p .overflow) (p .cursor + len) (grows .1)
+
+  pub within-overflow : p .cursor + len ≤ length overflow
+  within-overflow = omega (arith, grows .1, through-overflow p (memories pool overflow) k e z)
+
+  module _ (n : BufferPool) (o : n ≡ offered (keptTo p (p .cursor + len)) len) where
+    pub grown-sum : frameOf (n .mode) n .start + frameOf (n .mode) n .length ≤ 18446744073709551615
+    grown-sum =
+        let S = sound-use 8 p (through-sound p (memories pool overflow) k e z) in
+        subst (λ (x : BufferPool). frameOf (x .mode) x .start + frameOf (x .mode) x .length ≤ 18446744073709551615) (ap (λ (x : Decision). x .next) (grows .0) ∙ sym o)
+        (frame-end (place 8 p len .next) (place-orderly 8 p len (S .orderly) (ap (λ (x : Decision). tooLong x len) (grows .0) ∙ grown-fits))
+        (omega (arith, place-capacity 8 p len, S .capacity-limit)) (omega (arith, place-overflow 8 p len, S .overflow-limit)))
+
+    pub reserve-grown : (after : List ℕ) → after ≡ zeroed overflow (p .kept) (p .cursor + len) → (c : Called) → c ≡ reserved n 0
+        → outcome c (memories pool after) [] ≡ reserve 8 p (memories pool overflow) len
+    unfolding reserve reserveStep reserveOn perform act
+    reserve-grown after a c h = let-through p (memories pool overflow) k e z [] _ _ (rw (grows .0, grown-fits, h, o, a))
 
 pub decided-inside : (p : BufferPool) (pool overflow : List ℕ) (len k : ℕ) → k ≡ cause 8 p (memories pool overflow) → k ≡ 0 → (d : Decided) → Decides d (place 8 p len) len
     → d .«too_long» ≡ false → allInside (length pool) (length overflow) (listed (d .moves)) ≡ true
@@ -298,10 +427,25 @@ unfolding copiedOut takeMoves perform act
 copies p pool overflow destination c zero y filled left h i = absurd (y refl)
 copies p pool overflow destination c (suc n) y filled left h i = rw (h, i)
 
-module _ (p : BufferPool) (pool overflow destination : List ℕ) (k : ℕ) (e : k ≡ cause 8 p (memories pool overflow)) where
+module _ (p : BufferPool) (pool overflow destination : List ℕ) (k : ℕ) (e : k ≡ numbered 8 p (memories pool overflow) (refusal (takeStep 8 p (length destination) .answer))) where
+  copies-none : (c : Called) → copiedOut c p (memories pool overflow) destination 0 ≡ outcome c (memories pool overflow) destination
+  unfolding copiedOut takeMoves perform
+  copies-none c = ap (outcome c (memories pool overflow)) (sym (copied-none overflow 0 destination 0))
+
+  -- a take that its step refuses copies nothing
+  refused-copies : (refusal (takeStep 8 p (length destination) .answer) ≡ 0 → ⊥)
+      → copiedOut (takeStep 8 p (length destination)) p (memories pool overflow) destination (copiedLength (takeStep 8 p (length destination) .answer))
+      ≡ outcome (refused p (refusal (takeStep 8 p (length destination) .answer))) (memories pool overflow) destination
+  refused-copies o =
+      ap (λ (x : Called). copiedOut x p (memories pool overflow) destination (copiedLength (x .answer))) (take-own p (length destination) o)
+      ∙ copies-none (refused p (refusal (takeStep 8 p (length destination) .answer)))
+
   pub take-turned : (k ≡ 0 → ⊥) → (c : Called) → c ≡ refused p k → outcome c (memories pool overflow) destination ≡ take 8 p (memories pool overflow) destination
   unfolding take
-  take-turned n c f = turned-away p (memories pool overflow) k e n destination c _ f
+  take-turned n c f = turned-own p (memories pool overflow) _ k e n destination c _ refused-copies f
+
+  guarded-none : k ≡ 0 → 0 ≡ cause 8 p (memories pool overflow)
+  guarded-none z = none-guarded p (memories pool overflow) _ k e z
 
   module _ (z : k ≡ 0) (c : Called) (f : c ≡ takeStep 8 p (length destination)) (n : ℕ) (g : n ≡ copiedLength (c .answer)) where
     length-is : n ≡ copiedLength (takeStep 8 p (length destination) .answer)
@@ -309,14 +453,13 @@ module _ (p : BufferPool) (pool overflow destination : List ℕ) (k : ℕ) (e : 
 
     through-take : (o : Outcome) → o ≡ copiedOut c p (memories pool overflow) destination n → o ≡ take 8 p (memories pool overflow) destination
     unfolding take
-    through-take o h = let-through p (memories pool overflow) k e z destination o _ (h ∙ rw (length-is, f))
+    through-take o h = let-through p (memories pool overflow) 0 (guarded-none z) refl destination o _ (h ∙ rw (length-is, f))
 
     pub take-nothing : n ≡ 0 → outcome c (memories pool overflow) destination ≡ take 8 p (memories pool overflow) destination
-    unfolding copiedOut takeMoves perform
-    take-nothing y = through-take _ (rw y (ap (outcome c (memories pool overflow)) (copied-none overflow 0 destination 0)))
+    take-nothing y = through-take _ (rw y (sym (copies-none c)))
 
-    bounded : Bounded p (through-orderly p (memories pool overflow) k e z) (length destination) n
-    bounded = rw length-is (copy-bounded p (through-orderly p (memories pool overflow) k e z) (length destination))
+    bounded : Bounded p (through-orderly p (memories pool overflow) 0 (guarded-none z) refl) (length destination) n
+    bounded = rw length-is (copy-bounded p (through-orderly p (memories pool overflow) 0 (guarded-none z) refl) (length destination))
 
     pub copied-kept : n ≤ p .kept
     copied-kept = bounded .within-kept
@@ -325,7 +468,7 @@ module _ (p : BufferPool) (pool overflow destination : List ℕ) (k : ℕ) (e : 
     copied-to = bounded .within-destination
 
     pub kept-in : p .kept ≤ length overflow
-    kept-in = omega (arith, through-orderly p (memories pool overflow) k e z .kept-within, through-overflow p (memories pool overflow) k e z)
+    kept-in = omega (arith, through-orderly p (memories pool overflow) 0 (guarded-none z) refl .kept-within, through-overflow p (memories pool overflow) 0 (guarded-none z) refl)
 
     pub take-copies : (n ≡ 0 → ⊥) → (filled left : List ℕ) → filled ≡ copied overflow 0 n destination 0 → left ≡ moved overflow n (p .kept - n) 0
         → outcome c (memories pool left) filled ≡ take 8 p (memories pool overflow) destination

@@ -18,7 +18,8 @@ use Rattle.buffer_pool.specs.Moves.{Memories}
 use Rattle.buffer_pool.specs.Soundness.{sound}
 use Rattle.buffer_pool.specs.Placing.{mostChanges}
 use Rattle.buffer_pool.specs.Steps.{refusal, at, frame}
-use Rattle.buffer_pool.specs.Calls.{Outcome, View, new}
+use Rattle.buffer_pool.specs.declared.buffer_pool.View.{View}
+use Rattle.buffer_pool.specs.Calls.{Outcome, new}
 use Rattle.buffer_pool.specs.Rust.{done, RustPool, rust-reserve}
 use Rattle.buffer_pool.specs.AsRust.{Stands}
 use Rattle.buffer_pool.specs.Causes.{Part, Call, viewOf, outcomeOf, numberOf, destinationOf, Result, usesHeap, heapTooShort, causes, newCauses, tooLarge, First, firstCause}

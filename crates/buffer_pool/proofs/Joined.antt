@@ -25,7 +25,8 @@ use Rattle.buffer_pool.specs.Moves.{Memories}
 use Rattle.buffer_pool.specs.Sound.{InMode, Orderly}
 use Rattle.buffer_pool.specs.Soundness.{sound}
 use Rattle.buffer_pool.specs.Steps.{at, frameOf, frame, reservation, names}
-use Rattle.buffer_pool.specs.Calls.{misfit, guarded, View, shown, hidden, frameView, reservationView, sliceView, memoryAt, bytesAt}
+use Rattle.buffer_pool.specs.declared.buffer_pool.View.{View}
+use Rattle.buffer_pool.specs.Calls.{misfit, guarded, shown, hidden, frameView, reservationView, sliceView, memoryAt, bytesAt}
 use Rattle.buffer_pool.specs.Rust.{done, RustPool}
 use Rattle.buffer_pool.specs.AsRust.{rustOf, heapOf, Stands}
 use Rattle.buffer_pool.specs.Causes.{Part, TheFrame, TheReservation, TheSlice, viewOf}

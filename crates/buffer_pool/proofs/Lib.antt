@@ -22,6 +22,7 @@ pub mod SoundTestLaws
 pub mod StepLaws
 pub mod MovesInside
 pub mod PerformLaws
+pub mod Unmoved
 pub mod CallLaws
 pub mod ViewLaws
 pub mod SoundKept

@@ -27,7 +27,8 @@ use Rattle.buffer_pool.specs.Placing.{Decision, place, tooLong, isAlloc}
 use Rattle.buffer_pool.specs.Soundness.{sound}
 use Rattle.buffer_pool.specs.Sound.{Orderly}
 use Rattle.buffer_pool.specs.Steps.{refusal, called, refused, at, frame, frameOf, reservation, reserveOn, reserveStep, resized, reframed, commitStep, truncateStep, mostSerials, takeOn, takeStep, names, releaseStep}
-use Rattle.buffer_pool.specs.Calls.{Outcome, outcome, misfit, guarded, guardedCall, new, reserve, commit, truncate, copiedOut, take, release, View, hidden, shown, frameView, reservationView, sliceView}
+use Rattle.buffer_pool.specs.declared.buffer_pool.View.{View}
+use Rattle.buffer_pool.specs.Calls.{Outcome, outcome, misfit, guarded, guardedCall, new, reserve, commit, truncate, copiedOut, take, release, hidden, shown, frameView, reservationView, sliceView}
 use Rattle.buffer_pool.specs.Rust.{RustPool, rust-reserve}
 use Rattle.buffer_pool.specs.AsRust.{rustOf, heapOf, Mirrors, Stands}
 use Rattle.buffer_pool.specs.Causes.{Part, TheFrame, TheReservation, TheSlice, Call, Reserve, Commit, Truncate, Take, Release, Look, viewOf, told, outcomeOf, numberOf, unsound, tooLarge, inOverflow, usesHeap, heapTooShort, pastReservation, destinationTooShort, unknown, serialsExhausted, Cause, cause, viewCauses, ownCauses, causes, newCauses, firstCause, First}

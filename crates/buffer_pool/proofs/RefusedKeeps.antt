@@ -21,7 +21,8 @@ use Rattle.buffer_pool.specs.Moves.{Memories, perform}
 use Rattle.buffer_pool.specs.Placing.{place, tooLong}
 use Rattle.buffer_pool.specs.Soundness.{sound}
 use Rattle.buffer_pool.specs.Steps.{refusal, refused, frame, reserveOn, reserveStep, commitStep, truncateStep, mostSerials, takeOn, takeStep, copiedLength, takeMoves, names, releaseStep}
-use Rattle.buffer_pool.specs.Calls.{Outcome, outcome, misfit, guarded, guardedCall, new, reserve, commit, truncate, copiedOut, take, release, View, hidden, frameView, reservationView, sliceView}
+use Rattle.buffer_pool.specs.declared.buffer_pool.View.{View}
+use Rattle.buffer_pool.specs.Calls.{Outcome, outcome, misfit, guarded, guardedCall, new, reserve, commit, truncate, copiedOut, take, release, hidden, frameView, reservationView, sliceView}
 use Rattle.buffer_pool.specs.Causes.{Part, TheFrame, TheReservation, TheSlice, Call, Reserve, Commit, Truncate, Take, Release, Look, viewOf, told, outcomeOf, numberOf, destinationOf}
 
 -- an outcome that, where it is a refusal, leaves these

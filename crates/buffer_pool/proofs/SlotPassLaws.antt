@@ -2,12 +2,14 @@
 use mathlib.Core.Path.{_≡_, refl, sym, ap, _∙_}
 use mathlib.Core.Bool.{Bool, true, false, not}
 use mathlib.Core.List.{List}
-use Prim.Native.Nat.{ℕ, zero, suc, _+_, _-_, _≤_, _<_}
+use Prim.Native.Nat.{ℕ, zero, suc, _+_, _-_, _≤_, _<_, _^_}
 use native.Mathlib.Numerals.{add-one}
 use native.Mathlib.Omega.{arith}
+use lib.Count.{trailingZeros}
 use lib.ListN.{getD}
 use Rattle.laws.specs.Live.{liveAt}
 use Rattle.laws.proofs.Tests.{not-true, not-false}
+use Rattle.laws.proofs.Slots.{none-above}
 use Rattle.buffer_pool.specs.declared.sound.Bounds.{Bounds}
 use Rattle.buffer_pool.specs.declared.sound.Passed.{Passed}
 use Rattle.buffer_pool.specs.SlotPass.{passed, slotSound, slotPass, passes}
@@ -24,7 +26,7 @@ module _ (starts lengths : List ℕ) (live : ℕ) (b : Bounds) where
     passed-live h start len s n t f = rw (← add-one i, ← e, not-false l h, f, s, n)
 
   -- the loop: what is left to pass decides
-  module _ (i end : ℕ) (h : i < 8) (a : passes starts lengths live b 8 0 0 ≡ passes starts lengths live b (8 - i) i end) (s : Passed)
+  module _ (i end last : ℕ) (l : last ≤ 8) (h : i < last) (a : passes starts lengths live b 8 0 0 ≡ passes starts lengths live b (8 - i) i end) (s : Passed)
       (e : s ≡ slotPass starts lengths live b i end) where
     turn : passes starts lengths live b 8 0 0 ≡ passes starts lengths live b (suc (8 - (i + 1))) i end
     turn = a ∙ ap (λ (n : ℕ). passes starts lengths live b n i end) (omega arith)
@@ -37,7 +39,12 @@ module _ (starts lengths : List ℕ) (live : ℕ) (b : Bounds) where
     unfolding passes
     passes-more t = turn ∙ rw (← e, not-false (s .sound) t, add-one i)
 
-  pub passes-all : (i end : ℕ) → i ≤ 8 → 8 ≤ i → passes starts lengths live b 8 0 0 ≡ passes starts lengths live b (8 - i) i end → true ≡ passes starts lengths live b 8 0 0
-  unfolding passes
-  passes-all i end h k a =
-      let z : 8 - i ≡ 0 = omega arith in sym (a ∙ ap (λ (n : ℕ). passes starts lengths live b n i end) z)
+  -- free slots pass
+  free-pass : (n i end : ℕ) → ((q : ℕ) → i < q → q ≤ i + n → liveAt 8 live q ≡ false) → passes starts lengths live b n i end ≡ true
+  unfolding passes slotPass
+  free-pass zero i end f = refl
+  free-pass (suc n) i end f = rw (f (suc i) (omega arith) (omega arith)) (free-pass n (suc i) end (λ q a m. f q (omega arith) (omega arith)))
+
+  module _ (h : live < 2 ^ 8) (last z : ℕ) (e : z ≡ trailingZeros 8 live) (g : last ≡ 8 - z) where
+    pub passes-all : (i end : ℕ) → i ≤ last → last ≤ i → passes starts lengths live b 8 0 0 ≡ passes starts lengths live b (8 - i) i end → true ≡ passes starts lengths live b 8 0 0
+    passes-all i end l k a = sym (a ∙ free-pass (8 - i) i end (λ q u m. none-above 8 live q h (omega (arith, e, g, l, k, u)) (omega (arith, g, l))))

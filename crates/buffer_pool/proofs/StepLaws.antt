@@ -10,8 +10,9 @@ use mir.Syntax.{w64}
 use lib.Dec.{leb, ltb, eqb}
 use lib.ListN.{getD, set}
 use borrow.Author.Tests.{lt-ltb, le-ltb, lt-leb, le-leb, eq-eqb, ne-eqb, leb-true}
+use Rattle.laws.specs.Tests.{pick}
 use Rattle.laws.specs.Live.{liveAt, claimed, released}
-use Rattle.laws.proofs.Tests.{both-true, not-true, not-false}
+use Rattle.laws.proofs.Tests.{no-true, both-true, not-true, not-false}
 use Rattle.buffer_pool.specs.declared.slice.Handle.{Handle}
 use Rattle.buffer_pool.specs.declared.buffer_pool.BufferPool.{BufferPool}
 use Rattle.buffer_pool.specs.declared.buffer_pool.PoolFront.{PoolFront}
@@ -22,8 +23,9 @@ use Rattle.buffer_pool.specs.declared.buffer_pool.Place.{Place}
 use Rattle.buffer_pool.specs.declared.buffer_pool.Answer.the-variants.{Done, Framed, Taken, Copied, Refused}
 use Rattle.buffer_pool.specs.declared.buffer_pool.Called.{Called}
 use Rattle.buffer_pool.specs.Record.{startAt, front, framed, marked}
+use Rattle.buffer_pool.specs.Placing.{isAlloc}
 use Rattle.buffer_pool.specs.Sound.{Orderly, InBack, InFront, InAlloc, InMode}
-use Rattle.buffer_pool.specs.Steps.{called, refused, at, frameOf, resized, reframed, commitStep, truncateStep, handedOut, pooled, copiedOutOn, takeOn, takeStep, names, releaseStep}
+use Rattle.buffer_pool.specs.Steps.{refusal, called, refused, at, frame, frameOf, resized, reframed, commitStep, truncateStep, handedOut, pooled, copiedOutOn, takeOn, takeStep, mostSerials, names, releaseStep}
 
 -- ---- The frame, by the mode
 
@@ -37,18 +39,131 @@ module _ (p : BufferPool) where
   pub frame-alloc : p .mode ≡ Alloc → at Overflow 0 (p .cursor) ≡ frameOf (p .mode) p
   frame-alloc m = ap (λ (x : PoolMode). frameOf x p) (sym m)
 
-  module _ (len : ℕ) (q : BufferPool) where
-    pub resized-back : p .mode ≡ Back → q ≡ framed p Back (p .«raw_offset») len (p .kept) (p .cursor) 0 → q ≡ resized (p .mode) p len
-    resized-back m e = e ∙ ap (λ (x : PoolMode). resized x p len) (sym m)
+  module _ (len : ℕ) where
+    pub resized-back : p .mode ≡ Back → framed p (p .mode) (p .«raw_offset») len (p .kept) (p .cursor) 0 ≡ resized (p .mode) p len
+    resized-back m = rw m refl
 
-    pub resized-front : (f : PoolFront) → p .mode ≡ Front f → q ≡ framed p (Front f) (p .«raw_offset») len (p .kept) (p .cursor) 0 → q ≡ resized (p .mode) p len
-    resized-front f m e = e ∙ ap (λ (x : PoolMode). resized x p len) (sym m)
+    pub resized-front : (f : PoolFront) → p .mode ≡ Front f → framed p (p .mode) (p .«raw_offset») len (p .kept) (p .cursor) 0 ≡ resized (p .mode) p len
+    resized-front f m = rw m refl
 
-    pub resized-alloc : p .mode ≡ Alloc → q ≡ framed p Alloc (p .«raw_offset») (p .«raw_len») (p .kept) len 0 → q ≡ resized (p .mode) p len
-    resized-alloc m e = e ∙ ap (λ (x : PoolMode). resized x p len) (sym m)
+    pub resized-alloc : p .mode ≡ Alloc → framed p (p .mode) (p .«raw_offset») (p .«raw_len») (p .kept) len 0 ≡ resized (p .mode) p len
+    resized-alloc m = rw m refl
+
+  pub not-alloc-back : p .mode ≡ Back → false ≡ isAlloc (p .mode)
+  not-alloc-back m = rw m refl
+
+  pub not-alloc-front : (f : PoolFront) → p .mode ≡ Front f → false ≡ isAlloc (p .mode)
+  not-alloc-front f m = rw m refl
+
+  pub is-alloc : p .mode ≡ Alloc → true ≡ isAlloc (p .mode)
+  is-alloc m = rw m refl
 
 pub reframed-as : (p : BufferPool) (f : Place) → f ≡ frameOf (p .mode) p → record { pool = p; answer = Framed f } ≡ reframed p
 reframed-as p f e = ap (λ (x : Place). called p (Framed x)) e
+
+-- ---- The number that a step is refused with
+
+pub commit-five : (p : BufferPool) (n : ℕ) → p .reserved < n → 5 ≡ refusal (commitStep p n .answer)
+unfolding commitStep refusal
+commit-five p n h = rw (lt-ltb (p .reserved) n h)
+
+pub commit-zero : (p : BufferPool) (n : ℕ) → n ≤ p .reserved → 0 ≡ refusal (commitStep p n .answer)
+unfolding commitStep refusal
+commit-zero p n h = rw (le-ltb (p .reserved) n h)
+
+pub commit-own : (p : BufferPool) (n : ℕ) → (refusal (commitStep p n .answer) ≡ 0 → ⊥) → commitStep p n ≡ refused p (refusal (commitStep p n .answer))
+unfolding commitStep refusal
+commit-own p n = go (ltb (p .reserved) n)
+  where
+    go : (b : Bool) → (refusal (pick b (refused p 5) (reframed (resized (p .mode) p (frame p .length + n))) .answer) ≡ 0 → ⊥)
+        → pick b (refused p 5) (reframed (resized (p .mode) p (frame p .length + n))) ≡ refused p (refusal (pick b (refused p 5) (reframed (resized (p .mode) p (frame p .length + n))) .answer))
+    go true k = refl
+    go false k = absurd (k refl)
+
+module _ (p : BufferPool) (destination : ℕ) where
+  -- a take's number, by its tests
+  abbrev takeNumber : Bool → Bool → Bool → PoolMode → ℕ
+  takeNumber empty long spent mode = refusal (takeOn empty long spent mode 8 p .answer)
+
+  module _ (f : Place) (e : f ≡ frameOf (p .mode) p) where
+    pub take-empty-zero : f .length ≡ 0 → 0 ≡ refusal (takeStep 8 p destination .answer)
+    unfolding takeStep takeOn refusal
+    take-empty-zero z = rw (← e, eq-eqb (f .length) 0 z)
+
+    module _ (s : f .length ≡ 0 → ⊥) (a : Bool) (i : a ≡ isAlloc (p .mode)) where
+      some : (long spent : Bool) → ltb destination (f .length) ≡ long → leb mostSerials (p .given) ≡ spent
+          → refusal (takeStep 8 p destination .answer) ≡ takeNumber false long spent (p .mode)
+      unfolding takeStep
+      some long spent l t = rw (← e, ne-eqb (f .length) 0 s, l, t)
+
+      pub take-six : a ≡ true → destination < f .length → 6 ≡ refusal (takeStep 8 p destination .answer)
+      unfolding takeOn refusal
+      take-six t h = go (p .mode) (sym i ∙ t) ∙ sym (some true _ (lt-ltb destination (f .length) h) refl)
+        where
+          go : (mode : PoolMode) → isAlloc mode ≡ true → 6 ≡ takeNumber false true (leb mostSerials (p .given)) mode
+          go Back q = absurd (no-true q)
+          go (Front g) q = absurd (no-true q)
+          go Alloc q = refl
+
+      pub take-copied-zero : a ≡ true → f .length ≤ destination → 0 ≡ refusal (takeStep 8 p destination .answer)
+      unfolding takeOn refusal
+      take-copied-zero t h = go (p .mode) (sym i ∙ t) ∙ sym (some false _ (le-ltb destination (f .length) h) refl)
+        where
+          go : (mode : PoolMode) → isAlloc mode ≡ true → 0 ≡ takeNumber false false (leb mostSerials (p .given)) mode
+          go Back q = absurd (no-true q)
+          go (Front g) q = absurd (no-true q)
+          go Alloc q = refl
+
+      pub take-eight : a ≡ false → 4294967295 ≤ p .given → 8 ≡ refusal (takeStep 8 p destination .answer)
+      unfolding takeOn refusal
+      take-eight t h = go (p .mode) (sym i ∙ t) ∙ sym (some _ true refl (le-leb mostSerials (p .given) h))
+        where
+          go : (mode : PoolMode) → isAlloc mode ≡ false → 8 ≡ takeNumber false (ltb destination (f .length)) true mode
+          go Back q = refl
+          go (Front g) q = refl
+          go Alloc q = absurd (no-true (sym q))
+
+      pub take-pooled-zero : a ≡ false → p .given < 4294967295 → 0 ≡ refusal (takeStep 8 p destination .answer)
+      unfolding takeOn refusal
+      take-pooled-zero t h = go (p .mode) (sym i ∙ t) ∙ sym (some _ false refl (lt-leb mostSerials (p .given) h))
+        where
+          go : (mode : PoolMode) → isAlloc mode ≡ false → 0 ≡ takeNumber false (ltb destination (f .length)) false mode
+          go Back q = refl
+          go (Front g) q = refl
+          go Alloc q = absurd (no-true (sym q))
+
+  pub take-own : (refusal (takeStep 8 p destination .answer) ≡ 0 → ⊥) → takeStep 8 p destination ≡ refused p (refusal (takeStep 8 p destination .answer))
+  unfolding takeStep takeOn refusal
+  take-own = go (eqb (frameOf (p .mode) p .length) 0) (ltb destination (frameOf (p .mode) p .length)) (leb mostSerials (p .given)) (p .mode)
+    where
+      go : (empty long spent : Bool) (mode : PoolMode) → (takeNumber empty long spent mode ≡ 0 → ⊥) → takeOn empty long spent mode 8 p ≡ refused p (takeNumber empty long spent mode)
+      go true long spent mode k = absurd (k refl)
+      go false long true Back k = refl
+      go false long false Back k = absurd (k refl)
+      go false long true (Front f) k = refl
+      go false long false (Front f) k = absurd (k refl)
+      go false true spent Alloc k = refl
+      go false false spent Alloc k = absurd (k refl)
+
+module _ (p : BufferPool) (h : Handle) where
+  pub release-seven : (b : Bool) → b ≡ names 8 p h → not b ≡ true → 7 ≡ refusal (releaseStep 8 p h .answer)
+  unfolding releaseStep refusal
+  release-seven b e t = rw (← e, not-true b t)
+
+  pub release-zero : (b : Bool) → b ≡ names 8 p h → not b ≡ false → 0 ≡ refusal (releaseStep 8 p h .answer)
+  unfolding releaseStep refusal
+  release-zero b e t = rw (← e, not-false b t)
+
+  abbrev done : Called
+  done = called (marked p (released 8 (p .live) (h .slot)) (p .starts) (p .lengths) (p .serials) (p .given)) Done
+
+  pub release-own : (refusal (releaseStep 8 p h .answer) ≡ 0 → ⊥) → releaseStep 8 p h ≡ refused p (refusal (releaseStep 8 p h .answer))
+  unfolding releaseStep refusal
+  release-own = go (names 8 p h)
+    where
+      go : (b : Bool) → (refusal (pick b done (refused p 7) .answer) ≡ 0 → ⊥) → pick b done (refused p 7) ≡ refused p (refusal (pick b done (refused p 7) .answer))
+      go true k = absurd (k refl)
+      go false k = refl
 
 -- ---- Commit
 

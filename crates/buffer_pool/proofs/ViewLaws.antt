@@ -25,7 +25,8 @@ use Rattle.buffer_pool.specs.Moves.{Memories, memories}
 use Rattle.buffer_pool.specs.Soundness.{sound}
 use Rattle.buffer_pool.specs.Sound.{Orderly}
 use Rattle.buffer_pool.specs.Steps.{at, frame, frameOf, reservation, names}
-use Rattle.buffer_pool.specs.Calls.{misfit, guarded, cause, View, shown, hidden, frameView, reservationView, sliceView, memoryAt, bytesAt, movedOn, placeAt, Lies}
+use Rattle.buffer_pool.specs.declared.buffer_pool.View.{View}
+use Rattle.buffer_pool.specs.Calls.{misfit, guarded, cause, shown, hidden, frameView, reservationView, sliceView, memoryAt, bytesAt, movedOn, placeAt, Lies}
 use Rattle.buffer_pool.proofs.Soundness.{sound-use}
 use Rattle.buffer_pool.proofs.BoundLaws.{end-some}
 use Rattle.buffer_pool.proofs.StepLaws.{named-one, named-most}
@@ -34,16 +35,7 @@ use Rattle.buffer_pool.proofs.CallLaws.{number, guarded-by, passed-by, 
 
 -- ---- A view that may be refused with 1 or 2
 
-numbered : (s f : Bool) (place : Place) → number s f ≡ pick (not s) (hidden 1) (pick f (hidden 2) (shown place)) .number
-numbered true true place = refl
-numbered true false place = refl
-numbered false f place = refl
-
 module _ (p : BufferPool) (m : Memories) (k : ℕ) (e : k ≡ cause 8 p m) where
-  pub view-number : (place : Place) → k ≡ guarded 8 p m hidden (shown place) .number
-  unfolding cause
-  view-number place = e ∙ numbered (sound 8 p) (misfit p m) place
-
   module _ (v : View) where
     turned : (k ≡ 0 → ⊥) → hidden k ≡ guarded 8 p m hidden v
     unfolding cause
@@ -53,18 +45,15 @@ module _ (p : BufferPool) (m : Memories) (k : ℕ) (e : k ≡ cause 8 p m) where
     unfolding cause
     through z = passed-by (sound 8 p) (misfit p m) hidden v (sym e ∙ z)
 
-    pub turned-number : (k ≡ 0 → ⊥) → k ≡ guarded 8 p m hidden v .number
-    turned-number n = ap (λ (x : View). x .number) (turned n)
-
-    pub turned-place : (k ≡ 0 → ⊥) → (q : Place) → q ≡ at Pool 0 0 → q ≡ guarded 8 p m hidden v .place
-    turned-place n q f = f ∙ ap (λ (x : View). x .place) (turned n)
+    pub turned-view : (k ≡ 0 → ⊥) → (q : View) → q ≡ hidden k → q ≡ guarded 8 p m hidden v
+    turned-view n q f = f ∙ turned n
 
   -- the reservation starts where the frame ends, at a 64-bit number
   pub through-sum : k ≡ 0 → frameOf (p .mode) p .start + frameOf (p .mode) p .length ≤ 18446744073709551615
   through-sum z = let S = sound-use 8 p (through-sound p m k e z) in frame-end p (S .orderly) (S .capacity-limit) (S .overflow-limit)
 
-  pub through-place : (f : Place) → k ≡ 0 → (q : Place) → q ≡ f → q ≡ guarded 8 p m hidden (shown f) .place
-  through-place f z q g = g ∙ ap (λ (x : View). x .place) (through (shown f) z)
+  pub through-view : (f : Place) → k ≡ 0 → (x : Place) → x ≡ f → (q : View) → q ≡ shown x → q ≡ guarded 8 p m hidden (shown f)
+  through-view f z x g q i = i ∙ ap shown g ∙ through (shown f) z
 
 -- ---- Parts of the memories
 
@@ -98,13 +87,16 @@ module _ (pool overflow : ℕ × ℕ) (q : Place) (pointer : ℕ × ℕ) where
   unfolding placeAt
   pointer-overflow e f = f ∙ rw e
 
--- what is known of a place holds of the one that it equals
-module _ (q view : Place) (e : q ≡ view) where
-  pub bytes-there : (m : Memories) (bytes : List ℕ) → bytes ≡ bytesAt m q → bytes ≡ bytesAt m view
-  bytes-there m bytes f = f ∙ ap (bytesAt m) e
+-- what is known of a view's place holds of the view that it equals
+module _ (v view : View) (e : v ≡ view) where
+  pub bytes-there : (m : Memories) (bytes : List ℕ) → bytes ≡ bytesAt m (v .place) → bytes ≡ bytesAt m (view .place)
+  bytes-there m bytes f = f ∙ ap (λ (x : View). bytesAt m (x .place)) e
 
-  pub pointer-there : (pool overflow pointer : ℕ × ℕ) → pointer ≡ placeAt pool overflow q → pointer ≡ placeAt pool overflow view
-  pointer-there pool overflow pointer f = f ∙ ap (placeAt pool overflow) e
+  pub pointer-there : (pool overflow pointer : ℕ × ℕ) → pointer ≡ placeAt pool overflow (v .place) → pointer ≡ placeAt pool overflow (view .place)
+  pointer-there pool overflow pointer f = f ∙ ap (λ (x : View). placeAt pool overflow (x .place)) e
+
+  pub number-there : v .number ≡ view .number
+  number-there = ap (λ (x : View). x .number) e
 
 -- ---- Every view lies in its memory
 
@@ -131,13 +123,13 @@ module _ (p : BufferPool) (m : Memories) where
       go (Front f) h = omega (arith, through-pool p m (cause 8 p m) refl z)
       go Alloc h = omega (arith, I .kept, through-overflow p m (cause 8 p m) refl z)
 
-  pub frame-lies : (q : Place) → q ≡ frameView 8 p m .place → Lies m q
+  pub frame-lies : (v : View) → v ≡ frameView 8 p m → Lies m (v .place)
   unfolding frameView
-  frame-lies q e = subst (Lies m) (sym e) (guarded-lies (shown (frame p)) (λ z. omega (arith, gathered-lies z)))
+  frame-lies v e = subst (λ (x : View). Lies m (x .place)) (sym e) (guarded-lies (shown (frame p)) (λ z. omega (arith, gathered-lies z)))
 
-  pub reservation-lies : (q : Place) → q ≡ reservationView 8 p m .place → Lies m q
+  pub reservation-lies : (v : View) → v ≡ reservationView 8 p m → Lies m (v .place)
   unfolding reservationView
-  reservation-lies q e = subst (Lies m) (sym e) (guarded-lies (shown (reservation p)) gathered-lies)
+  reservation-lies v e = subst (λ (x : View). Lies m (x .place)) (sym e) (guarded-lies (shown (reservation p)) gathered-lies)
 
 -- ---- The slice of a handle
 
@@ -181,38 +173,25 @@ module _ (p : BufferPool) (m : Memories) (h : Handle) where
       go true false false = refl
       go false f b = refl
 
-module _ (p : BufferPool) (pool overflow : List ℕ) (h : Handle) (q : Place) (e : q ≡ sliceView 8 p (memories pool overflow) h .place) where
-  pub slice-within : q .start + q .length ≤ length pool
+module _ (p : BufferPool) (pool overflow : List ℕ) (h : Handle) (v : View) (e : v ≡ sliceView 8 p (memories pool overflow) h) where
+  pub slice-within : v .place .start + v .place .length ≤ length pool
   slice-within = rw e (slice-lies p (memories pool overflow) h)
 
-  in-pool : q .memory ≡ Pool
-  in-pool = ap (λ (x : Place). x .memory) e ∙ slice-pool p (memories pool overflow) h
+  in-pool : v .place .memory ≡ Pool
+  in-pool = ap (λ (x : View). x .place .memory) e ∙ slice-pool p (memories pool overflow) h
 
-  pub slice-bytes : (bytes : List ℕ) → bytes ≡ part pool (q .start) (q .length) → bytes ≡ bytesAt (memories pool overflow) (sliceView 8 p (memories pool overflow) h .place)
-  slice-bytes bytes f = bytes-there q _ e (memories pool overflow) bytes (bytes-pool pool overflow q in-pool bytes f)
+  pub slice-bytes : (bytes : List ℕ) → bytes ≡ part pool (v .place .start) (v .place .length)
+      → bytes ≡ bytesAt (memories pool overflow) (sliceView 8 p (memories pool overflow) h .place)
+  slice-bytes bytes f = bytes-there v _ e (memories pool overflow) bytes (bytes-pool pool overflow (v .place) in-pool bytes f)
 
-  pub slice-pointer : (a b pointer : ℕ × ℕ) → pointer ≡ movedOn a (q .start) → pointer ≡ placeAt a b (sliceView 8 p (memories pool overflow) h .place)
-  slice-pointer a b pointer f = pointer-there q _ e a b pointer (pointer-pool a b q pointer in-pool f)
+  pub slice-pointer : (a b pointer : ℕ × ℕ) → pointer ≡ movedOn a (v .place .start) → pointer ≡ placeAt a b (sliceView 8 p (memories pool overflow) h .place)
+  slice-pointer a b pointer f = pointer-there v _ e a b pointer (pointer-pool a b (v .place) pointer in-pool f)
 
 module _ (p : BufferPool) (m : Memories) (k : ℕ) (e : k ≡ cause 8 p m) (z : k ≡ 0) (h : Handle) (b : Bool) (f : b ≡ names 8 p h) where
-  module _ (t : not b ≡ true) where
-    unnamed : hidden 7 ≡ sliceView 8 p m h
-    unfolding sliceView
-    unnamed = through p m k e (hidden 7) z ∙ rw (← f, not-true b t)
+  pub unnamed-view : not b ≡ true → (q : View) → q ≡ hidden 7 → q ≡ sliceView 8 p m h
+  unfolding sliceView
+  unnamed-view t q g = g ∙ through p m k e (hidden 7) z ∙ rw (← f, not-true b t)
 
-    pub unnamed-number : 7 ≡ sliceView 8 p m h .number
-    unnamed-number = ap (λ (x : View). x .number) unnamed
-
-    pub unnamed-place : (q : Place) → q ≡ at Pool 0 0 → q ≡ sliceView 8 p m h .place
-    unnamed-place q g = g ∙ ap (λ (x : View). x .place) unnamed
-
-  module _ (t : not b ≡ false) where
-    named : shown (at Pool (h .start) (h .length)) ≡ sliceView 8 p m h
-    unfolding sliceView
-    named = through p m k e (shown (at Pool (h .start) (h .length))) z ∙ rw (← f, not-false b t)
-
-    pub named-number : 0 ≡ sliceView 8 p m h .number
-    named-number = ap (λ (x : View). x .number) named
-
-    pub named-place : at Pool (h .start) (h .length) ≡ sliceView 8 p m h .place
-    named-place = ap (λ (x : View). x .place) named
+  pub named-view : not b ≡ false → (q : View) → q ≡ shown (at Pool (h .start) (h .length)) → q ≡ sliceView 8 p m h
+  unfolding sliceView
+  named-view t q g = g ∙ through p m k e (shown (at Pool (h .start) (h .length))) z ∙ rw (← f, not-false b t)

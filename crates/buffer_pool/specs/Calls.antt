@@ -12,6 +12,7 @@ use Rattle.buffer_pool.specs.declared.buffer_pool.BufferPool.{BufferPool
 use Rattle.buffer_pool.specs.declared.buffer_pool.Memory.{Memory}
 use Rattle.buffer_pool.specs.declared.buffer_pool.Memory.the-variants.{Pool, Overflow}
 use Rattle.buffer_pool.specs.declared.buffer_pool.Place.{Place}
+use Rattle.buffer_pool.specs.declared.buffer_pool.View.{View}
 use Rattle.buffer_pool.specs.declared.buffer_pool.Answer.{Answer}
 use Rattle.buffer_pool.specs.declared.buffer_pool.Answer.the-variants.{Done, Refused}
 use Rattle.buffer_pool.specs.declared.buffer_pool.Called.{Called}
@@ -39,6 +40,10 @@ misfit r m = not (eqb (length (m .pool)) (r .capacity) && eqb (length (m .overfl
 -- an answer by number where cause 1 or 2 holds, otherwise the call's own
 abbrev pub guarded : {A : Type 0} → ℕ → BufferPool → Memories → (ℕ → A) → A → A
 guarded w r m refuse done = pick (not (sound w r)) (refuse 1) (pick (misfit r m) (refuse 2) done)
+
+-- the number that a call is refused with, where `own` is its step's own number: 1, 2, or own, which may be 0
+unfoldable pub numbered : ℕ → BufferPool → Memories → ℕ → ℕ
+numbered w r m own = guarded w r m (λ number. number) own
 
 -- the number of the cause that turns every call away, or 0
 unfoldable pub cause : ℕ → BufferPool → Memories → ℕ
@@ -82,11 +87,6 @@ unfoldable pub release : ℕ → BufferPool → Memories → Handle → Outcome
 release w r m h = guardedCall w r m [] (outcome (releaseStep w r h) m [])
 
 -- ---- The views
-
--- a view's refusal number, or 0, and its place
-pub record View : Type 0 where
-  pub number : ℕ
-  pub place : Place
 
 abbrev pub shown : Place → View
 shown place = record { number = 0; place = place }

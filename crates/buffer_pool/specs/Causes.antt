@@ -21,7 +21,8 @@ use Rattle.buffer_pool.specs.Moves.{Memories}
 use Rattle.buffer_pool.specs.Placing.{mostChanges}
 use Rattle.buffer_pool.specs.Soundness.{sound}
 use Rattle.buffer_pool.specs.Steps.{refusal, called, frame, reservation, mostSerials}
-use Rattle.buffer_pool.specs.Calls.{Outcome, outcome, misfit, reserve, commit, truncate, take, release, View, frameView, reservationView, sliceView}
+use Rattle.buffer_pool.specs.declared.buffer_pool.View.{View}
+use Rattle.buffer_pool.specs.Calls.{Outcome, outcome, misfit, reserve, commit, truncate, take, release, frameView, reservationView, sliceView}
 use Rattle.buffer_pool.specs.Rust.{Run, done, panic, Reply, rust-reserve}
 use Rattle.buffer_pool.specs.AsRust.{rustOf, heapOf}
 

@@ -1,8 +1,10 @@
 -- The code's answers while it places a frame, read as the records of Placing.antt.
 use mathlib.Core.Path.{_≡_}
-use mathlib.Core.Bool.{Bool, true, false}
+use mathlib.Core.Bool.{Bool, true, false, not, _&&_, _||_}
 use mathlib.Core.List.{List, [], _++_}
 use Prim.Native.Nat.{ℕ, _+_, _≤_}
+use lib.Dec.{leb, ltb, eqb}
+use lib.Count.{leadingZeros, trailingZeros}
 use Rattle.buffer_pool.specs.declared.buffer_pool.BufferPool.{BufferPool}
 use Rattle.buffer_pool.specs.declared.buffer_pool.PoolMode.{PoolMode}
 use Rattle.buffer_pool.specs.declared.buffer_pool.PoolMode.the-variants.{Back, Front, Alloc}
@@ -10,9 +12,10 @@ use Rattle.buffer_pool.specs.declared.placing.Cleared.{Cleared}
 use Rattle.buffer_pool.specs.declared.placing.Start.{Start}
 use Rattle.buffer_pool.specs.declared.placing.ModeStep.{ModeStep}
 use Rattle.buffer_pool.specs.declared.placing.Decided.{Decided}
+use Rattle.buffer_pool.specs.Record.{framed}
 use Rattle.buffer_pool.specs.Moves.{Move}
 use Rattle.buffer_pool.specs.MoveList.{listed}
-use Rattle.buffer_pool.specs.Placing.{Decision, Layer, finish, isAlloc, tooLong}
+use Rattle.buffer_pool.specs.Placing.{Decision, Layer, finish, backFits, frontFits, stays, isAlloc, resets, tooLong}
 
 -- the used slots of a front, 0 in the other modes
 abbrev pub frontLen : PoolMode → ℕ
@@ -62,3 +65,37 @@ finished r len = finish (r .mode) r [] len
 pub record Decides (c : Decided) (d : Decision) (len : ℕ) : Type 0 where
   pub too-long : c .«too_long» ≡ tooLong d len
   pub decision : tooLong d len ≡ false → decisionOf c ≡ d
+
+-- ---- Decisions that move no byte
+
+-- A keeps the frame: it stays, or the first and the last slot live, so that no clear can succeed
+unfoldable pub keepsIn : ℕ → BufferPool → Bool
+keepsIn w r = stays w false r || (eqb (leadingZeros w (r .live)) 0 && eqb (trailingZeros w (r .live)) 0)
+
+-- the frame stays where it is, and fits: in A within the kept bytes
+unfoldable pub fitsIn : PoolMode → ℕ → BufferPool → ℕ → Bool
+fitsIn Back w r len = backFits w r len
+fitsIn (Front f) w r len = ltb (f .len) (f .«back_start») && frontFits r (f .«byte_capacity») len
+fitsIn Alloc w r len = keepsIn w r && leb (r .cursor + len + 0) (r .kept)
+
+unfoldable pub settled : ℕ → BufferPool → ℕ → Bool
+settled w r len = not (resets r) && fitsIn (r .mode) w r len
+
+-- a reset with an empty frame in the pool, which has room for len bytes
+unfoldable pub startsOver : BufferPool → ℕ → Bool
+startsOver r len = resets r && (not (isAlloc (r .mode)) && (eqb (r .«raw_len») 0 && leb len (r .capacity)))
+
+-- the frame stays in A and needs zeros after the kept bytes, which the overflow has room for
+unfoldable pub growingHere : ℕ → BufferPool → ℕ → Bool
+growingHere w r len = keepsIn w r && (leb (r .cursor + len + 0) (r .overflow) && not (leb (r .cursor + len + 0) (r .kept)))
+
+unfoldable pub growing : ℕ → BufferPool → ℕ → Bool
+growing w r len = not (resets r) && (isAlloc (r .mode) && growingHere w r len)
+
+-- r with so many kept bytes of the overflow
+abbrev pub keptTo : BufferPool → ℕ → BufferPool
+keptTo r kept = framed r (r .mode) (r .«raw_offset») (r .«raw_len») kept (r .cursor) (r .reserved)
+
+-- r with a reservation of len bytes
+abbrev pub offered : BufferPool → ℕ → BufferPool
+offered r len = framed r (r .mode) (r .«raw_offset») (r .«raw_len») (r .kept) (r .cursor) len

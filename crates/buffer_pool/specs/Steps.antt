@@ -61,10 +61,14 @@ reservation r = at (frame r .memory) (frame r .start + frame r .length) (r .rese
 
 -- ---- Reserve
 
+-- the answer of a reserve that is not refused: the reservation, and how often the mode changed
+abbrev pub reserved : BufferPool → ℕ → Called
+reserved r changes = called r (Reserved (reservation r) changes)
+
 -- from its decision: refused with 4, or the reservation and the count of mode changes
 unfoldable pub reserveOn : Bool → BufferPool → Decision → Called
 reserveOn true r d = refused r 4
-reserveOn false r d = called (d .next) (Reserved (reservation (d .next)) (d .changes))
+reserveOn false r d = reserved (d .next) (d .changes)
 
 unfoldable pub reserveStep : ℕ → BufferPool → ℕ → Called
 reserveStep w r len = reserveOn (tooLong (place w r len) len) r (place w r len)

@@ -18,7 +18,8 @@ use Rattle.buffer_pool.specs.declared.buffer_pool.Answer.the-variants.{D
 use Rattle.buffer_pool.specs.Moves.{Memories}
 use Rattle.buffer_pool.specs.Placing.{mostChanges}
 use Rattle.buffer_pool.specs.Steps.{at}
-use Rattle.buffer_pool.specs.Calls.{Outcome, new, View, bytesAt, written}
+use Rattle.buffer_pool.specs.declared.buffer_pool.View.{View}
+use Rattle.buffer_pool.specs.Calls.{Outcome, new, bytesAt, written}
 use Rattle.buffer_pool.specs.Rust.{Run, done, panic, then, with, RustPool, Slice, Pooled, Heap, rust-reserve, rust-commit, rust-truncate, rust-take, rust-release, rust-frame, rust-new}
 use Rattle.buffer_pool.specs.AsRust.{sliceOf, rustWritten}
 use Rattle.buffer_pool.specs.Causes.{Part, TheFrame, TheReservation, TheSlice, Call, Reserve, Commit, Truncate, Take, Release, Look, viewOf, outcomeOf, numberOf}

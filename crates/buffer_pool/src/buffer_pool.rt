@@ -19,20 +19,19 @@ pub enum PoolMode {
     Alloc,
 }
 
-// The pool's record. The two memories that it speaks of are lent to each call.
+// The pool's record. The two memories that it speaks of are lent to each call. The arrays stand behind whole words: a copy of the
+// record then moves them at even places (docs/BENCHMARKS.md).
 pub struct BufferPool {
     // the lengths of the pool memory and of the overflow
     pub capacity: u64,
     pub overflow: u64,
 
-    // the live slots, and for each slot the slice that was last taken there
-    pub live: u8,
+    // for each slot the slice that was last taken there, how many serials were given, and the live slots
     pub starts: [u32; 8],
     pub lengths: [u32; 8],
     pub serials: [u32; 8],
-
-    // how many serials were given
     pub given: u32,
+    pub live: u8,
 
     // PoolBack: the back begins after slot `back_start` and has `back_len` slots
     pub back_start: usize,
@@ -64,6 +63,12 @@ pub struct Place {
     pub memory: Memory,
     pub start: u64,
     pub length: u64,
+}
+
+// What a view shows: the number of its refusal, or 0, and its place. A refused view is the empty place at the pool memory's start.
+pub struct View {
+    pub number: u8,
+    pub place: Place,
 }
 
 // What a call answers.

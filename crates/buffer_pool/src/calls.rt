@@ -4,19 +4,24 @@ ghost use mathlib.Core.Path.{_≡_};
 ghost use mathlib.Core.List.{[]};
 ghost use Prim.Native.Nat.{_+_, _-_, _≤_};
 ghost use lib.ListN.{length};
-ghost use Rattle.laws.specs.Lists.{copied, moved};
+ghost use Rattle.laws.specs.Lists.{copied, moved, zeroed};
 ghost use Rattle.buffer_pool.specs.Moves.{memories};
+ghost use Rattle.buffer_pool.specs.Deciding as deciding;
 ghost use Rattle.buffer_pool.specs.Steps as steps;
 ghost use Rattle.buffer_pool.specs.Calls as spec;
 use crate::buffer_pool::Answer;
 use crate::buffer_pool::BufferPool;
 use crate::buffer_pool::Called;
 use crate::buffer_pool::Place;
+use crate::buffer_pool::PoolMode;
 use crate::inner_memory::copy_between;
 use crate::inner_memory::copy_within;
 use crate::inner_memory::fill_zero;
 use crate::performing::perform;
+use crate::placing::is_growing;
+use crate::placing::is_settled;
 use crate::placing::place;
+use crate::placing::starts_over;
 use crate::slice::Handle;
 use crate::steps;
 
@@ -50,6 +55,40 @@ pub(crate) fn reservation(p: BufferPool) -> Place
     }
 }
 
+// The record after a reserve that changed the mode so often, and the reservation as the answer.
+fn reserved(p: BufferPool, changes: u32) -> Called
+    requires { ⌜ steps.frameOf (p .mode) p .start + steps.frameOf (p .mode) p .length ≤ 18446744073709551615 ⌝ }
+    ensures { λ r. ⌜ r ≡ steps.reserved p changes ⌝ }
+{
+    Called {
+        pool: p,
+        answer: Answer::Reserved(reservation(p), changes),
+    }
+}
+
+// The record with a reservation of `len` bytes after the frame.
+fn offered(p: BufferPool, len: u64) -> BufferPool
+    ensures { λ r. ⌜ r ≡ deciding.offered p len ⌝ }
+{
+    let mut q = p;
+    q.reserved = len;
+    q
+}
+
+// The frame of the overflow with a reservation that ends past the kept bytes: the bytes from there to its end are cleared and kept.
+fn grow(p: BufferPool, overflow: &mut [u8], len: u64) -> BufferPool
+    requires { ⌜ (p .kept ≤ p .cursor + len) × (p .cursor + len ≤ length (now overflow)) ⌝ }
+    ensures { λ r. ⌜ r ≡ deciding.offered (deciding.keptTo p (p .cursor + len)) len ⌝ }
+    ensures { λ _. ⌜ now (overflow .exit) ≡ zeroed (now (overflow .entry)) (p .kept) (p .cursor + len) ⌝ }
+{
+    let end = p.cursor + len;
+    fill_zero(overflow, p.kept as usize, end as usize);
+    let mut q = p;
+    q.kept = end;
+    q.reserved = len;
+    q
+}
+
 // How many bytes of the overflow an answer says to copy.
 fn copied_length(answer: Answer) -> u64
     ensures { λ r. ⌜ r ≡ steps.copiedLength answer ⌝ }
@@ -77,6 +116,46 @@ fn copy_out(overflow: &mut [u8], destination: &mut [u8], n: u64, kept: u64)
     copy_within(overflow, first, rest, 0);
 }
 
+// What turns a commit away: 1 or 2, 5 if `n` exceeds the reservation, or 0. The calls find their refusal first, so that a call has one
+// place where it refuses and one where it is done.
+fn commit_cause(p: BufferPool, pool: &[u8], overflow: &[u8], n: u64) -> u8
+    ensures { λ r. ⌜ r ≡ spec.numbered 8 p (memories (now (pool .entry)) (now (overflow .entry))) (steps.refusal (steps.commitStep p n .answer)) ⌝ }
+{
+    let number = guard(p, pool, overflow);
+    if number != 0 {
+        return number;
+    }
+    if p.reserved < n {
+        return 5;
+    }
+    0
+}
+
+// What turns a take away: 1 or 2, 6 if the destination is too short for a frame of the overflow, 8 if all serials are given, or 0.
+fn take_cause(p: BufferPool, pool: &[u8], overflow: &[u8], destination: u64) -> u8
+    ensures { λ r. ⌜ r ≡ spec.numbered 8 p (memories (now (pool .entry)) (now (overflow .entry))) (steps.refusal (steps.takeStep 8 p destination .answer)) ⌝ }
+{
+    let number = guard(p, pool, overflow);
+    if number != 0 {
+        return number;
+    }
+    steps::take_refusal(p, destination)
+}
+
+// What turns a release away: 1 or 2, 7 if the handle names no live slice, or 0.
+fn release_cause(p: BufferPool, pool: &[u8], overflow: &[u8], h: Handle) -> u8
+    ensures { λ r. ⌜ r ≡ spec.numbered 8 p (memories (now (pool .entry)) (now (overflow .entry))) (steps.refusal (steps.releaseStep 8 p h .answer)) ⌝ }
+{
+    let number = guard(p, pool, overflow);
+    if number != 0 {
+        return number;
+    }
+    if !steps::names(p, h) {
+        return 7;
+    }
+    0
+}
+
 impl BufferPool {
     // A new pool: the pool memory is cleared, the overflow stays as it is. Refuses with 3 if either memory is longer than the
     // byte limit, and then gives the record of a new pool whose two lengths are 0.
@@ -101,6 +180,7 @@ impl BufferPool {
 
     // Room for `len` more bytes after the frame: gives the reservation's place and how often the mode changed. Refuses with 1, 2,
     // and with 4 if the overflow would be used and is too short for frame and reservation. Bytes move only once that is known.
+    // A reserve that moves no byte is found by a few tests and needs no list of moves.
     pub fn reserve(self, pool: &mut [u8], overflow: &mut [u8], len: u64) -> Called
         ensures { λ r. ⌜ spec.outcome r (memories (now (pool .exit)) (now (overflow .exit))) [] ≡ spec.reserve 8 self (memories (now (pool .entry)) (now (overflow .entry))) len ⌝ }
     {
@@ -108,17 +188,23 @@ impl BufferPool {
         if number != 0 {
             return steps::refused(self, number);
         }
+        if is_settled(self, len) {
+            return reserved(offered(self, len), 0);
+        }
+        if starts_over(self, len) {
+            let start = self.placed(PoolMode::Back, 0, 0, 0, 0);
+            return reserved(offered(start, len), 0);
+        }
+        if is_growing(self, len) {
+            return reserved(grow(self, overflow, len), 0);
+        }
         let d = place(self, len);
         if d.too_long {
             return steps::refused(self, 4);
         }
         let moves = d.moves;
         perform(pool, overflow, moves);
-        let next = d.pool;
-        Called {
-            pool: next,
-            answer: Answer::Reserved(reservation(next), d.changes),
-        }
+        reserved(d.pool, d.changes)
     }
 
     // The first `n` bytes of the reservation join the frame: gives the frame's place. Refuses with 1, 2, and with 5 if `n` exceeds
@@ -126,7 +212,7 @@ impl BufferPool {
     pub fn commit(self, pool: &[u8], overflow: &[u8], n: u64) -> Called
         ensures { λ r. ⌜ spec.outcome r (memories (now (pool .entry)) (now (overflow .entry))) [] ≡ spec.commit 8 self (memories (now (pool .entry)) (now (overflow .entry))) n ⌝ }
     {
-        let number = guard(self, pool, overflow);
+        let number = commit_cause(self, pool, overflow, n);
         if number != 0 {
             return steps::refused(self, number);
         }
@@ -150,7 +236,7 @@ impl BufferPool {
     pub fn take(self, pool: &[u8], overflow: &mut [u8], destination: &mut [u8]) -> Called
         ensures { λ r. ⌜ spec.outcome r (memories (now (pool .entry)) (now (overflow .exit))) (now (destination .exit)) ≡ spec.take 8 self (memories (now (pool .entry)) (now (overflow .entry))) (now (destination .entry)) ⌝ }
     {
-        let number = guard(self, pool, overflow);
+        let number = take_cause(self, pool, overflow, destination.len() as u64);
         if number != 0 {
             return steps::refused(self, number);
         }
@@ -168,7 +254,7 @@ impl BufferPool {
     pub fn release(self, pool: &[u8], overflow: &[u8], h: Handle) -> Called
         ensures { λ r. ⌜ spec.outcome r (memories (now (pool .entry)) (now (overflow .entry))) [] ≡ spec.release 8 self (memories (now (pool .entry)) (now (overflow .entry))) h ⌝ }
     {
-        let number = guard(self, pool, overflow);
+        let number = release_cause(self, pool, overflow, h);
         if number != 0 {
             return steps::refused(self, number);
         }

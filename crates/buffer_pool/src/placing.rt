@@ -1,22 +1,25 @@
 // Placing a frame: `reserve_`, `change_mode` and `reset` (`BufferPool` in buffer_pool/mod.rs of the Rust), numbers alone. The
 // bytes are moved once the whole decision is known.
 ghost use mathlib.Core.Path.{_≡_};
-ghost use mathlib.Core.Bool.{true, false};
+ghost use mathlib.Core.Bool.{true, false, _&&_};
 ghost use Prim.Native.Nat.{_+_, _*_, _≤_, _<_};
-ghost use lib.Dec.{ltb, eqb};
+ghost use lib.Dec.{leb, ltb, eqb};
 ghost use Rattle.buffer_pool.specs.declared.buffer_pool.PoolMode.the-variants.{Back, Alloc};
 ghost use Rattle.buffer_pool.specs.Record.{placed};
 ghost use Rattle.buffer_pool.specs.Moves.{within};
 ghost use Rattle.buffer_pool.specs.MoveList.{listed};
 ghost use Rattle.buffer_pool.specs.Placing as spec;
-ghost use Rattle.buffer_pool.specs.Deciding.{Placeable, Starts, Decides, layerOf, ahead, finished, following};
+ghost use Rattle.buffer_pool.specs.Deciding.{Placeable, Starts, Decides, layerOf, ahead, finished, following, keepsIn, fitsIn, settled, startsOver, growingHere, growing};
 use crate::buffer_pool::BufferPool;
 use crate::buffer_pool::PoolMode;
+use crate::inner_memory::in_bounds;
 use crate::inner_memory::max;
 use crate::moves::MoveKind;
 use crate::moves::Moves;
 use crate::pool_back;
 use crate::pool_front;
+use crate::slice::leading;
+use crate::slice::trailing;
 
 // A clear that was tried: was it made, and the record after it, or the one before where it was not.
 pub struct Cleared {
@@ -307,6 +310,104 @@ fn reset(p: BufferPool) -> Start
         PoolMode::Front(_) => reset_in_pool(p),
         PoolMode::Alloc => reset_in_overflow(p),
     }
+}
+
+// Does the frame fit where it is, in its mode? In the overflow, within the kept bytes.
+fn fits(p: BufferPool, len: u64) -> bool
+    requires { ⌜ p .«back_start» + p .«back_len» ≤ 8 ⌝ }
+    ensures { λ r. ⌜ r ≡ fitsIn (p .mode) 8 p len ⌝ }
+{
+    let mode = p.mode;
+    match mode {
+        PoolMode::Back => pool_back::back_fits(p, len),
+        PoolMode::Front(f) => pool_front::front_fits(p, f, len),
+        PoolMode::Alloc => kept_fits(p, len),
+    }
+}
+
+// Does the overflow keep the frame? It does if it stays, or if the first and the last slot live, so that no clear can succeed.
+fn keeps(p: BufferPool) -> bool
+    requires { ⌜ p .«back_start» + p .«back_len» ≤ 8 ⌝ }
+    ensures { λ r. ⌜ r ≡ keepsIn 8 p ⌝ }
+{
+    if stays(p, false) {
+        return true;
+    }
+    if leading(p.live) != 0 {
+        return false;
+    }
+    trailing(p.live) == 0
+}
+
+// Does the overflow keep the frame, with `len` bytes after it that are kept?
+fn kept_fits(p: BufferPool, len: u64) -> bool
+    requires { ⌜ p .«back_start» + p .«back_len» ≤ 8 ⌝ }
+    ensures { λ r. ⌜ r ≡ (keepsIn 8 p && leb (p .cursor + len + 0) (p .kept)) ⌝ }
+{
+    if !keeps(p) {
+        return false;
+    }
+    in_bounds(p.kept, p.cursor, len, 0)
+}
+
+// Does the frame stay where it is, with no reset? Then a reserve moves no byte.
+pub(crate) fn is_settled(p: BufferPool, len: u64) -> bool
+    requires { ⌜ p .«back_start» + p .«back_len» ≤ 8 ⌝ }
+    ensures { λ r. ⌜ r ≡ settled 8 p len ⌝ }
+{
+    if resets(p) {
+        return false;
+    }
+    fits(p, len)
+}
+
+// Does a reserve begin with a reset of an empty frame in the pool, and fit? Then it moves no byte.
+pub(crate) fn starts_over(p: BufferPool, len: u64) -> bool
+    ensures { λ r. ⌜ r ≡ startsOver p len ⌝ }
+{
+    if !resets(p) {
+        return false;
+    }
+    if p.raw_len != 0 {
+        return false;
+    }
+    let mode = p.mode;
+    match mode {
+        PoolMode::Back => len <= p.capacity,
+        PoolMode::Front(_) => len <= p.capacity,
+        PoolMode::Alloc => false,
+    }
+}
+
+// Does the frame stay in the overflow, with no reset, and need zeros after the kept bytes, which the overflow has room for? Then a
+// reserve moves no byte and clears some.
+pub(crate) fn is_growing(p: BufferPool, len: u64) -> bool
+    requires { ⌜ p .«back_start» + p .«back_len» ≤ 8 ⌝ }
+    ensures { λ r. ⌜ r ≡ growing 8 p len ⌝ }
+{
+    if resets(p) {
+        return false;
+    }
+    let mode = p.mode;
+    match mode {
+        PoolMode::Back => false,
+        PoolMode::Front(_) => false,
+        PoolMode::Alloc => grows_here(p, len),
+    }
+}
+
+// Does the overflow keep the frame, with `len` bytes after it that end past the kept ones and within the overflow?
+fn grows_here(p: BufferPool, len: u64) -> bool
+    requires { ⌜ p .«back_start» + p .«back_len» ≤ 8 ⌝ }
+    ensures { λ r. ⌜ r ≡ growingHere 8 p len ⌝ }
+{
+    if !keeps(p) {
+        return false;
+    }
+    if !in_bounds(p.overflow, p.cursor, len, 0) {
+        return false;
+    }
+    !in_bounds(p.kept, p.cursor, len, 0)
 }
 
 // The whole decision of a reserve of `len` bytes.

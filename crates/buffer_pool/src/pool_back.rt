@@ -144,7 +144,7 @@ pub(crate) fn try_clear_head(p: BufferPool) -> Cleared
 }
 
 // Do a slot and `len` bytes after the frame lie within the back?
-fn back_fits(p: BufferPool, len: u64) -> bool
+pub(crate) fn back_fits(p: BufferPool, len: u64) -> bool
     requires { ⌜ p .«back_start» + p .«back_len» ≤ 8 ⌝ }
     ensures { λ r. ⌜ r ≡ backFits 8 p len ⌝ }
 {

@@ -23,7 +23,7 @@ use crate::pool_back::try_clear_tail_unchecked;
 use crate::slice::last_front;
 
 // Do a slot and `len` bytes after the frame lie within the front?
-fn front_fits(p: BufferPool, f: PoolFront, len: u64) -> bool
+pub(crate) fn front_fits(p: BufferPool, f: PoolFront, len: u64) -> bool
     ensures { λ r. ⌜ r ≡ (ltb (f .len) (f .«back_start») && spec.frontFits p (f .«byte_capacity») len) ⌝ }
 {
     if f.back_start <= f.len {

@@ -10,6 +10,7 @@ use crate::buffer_pool::PoolMode;
 use crate::inner_memory::in_bounds;
 use crate::inner_memory::wide;
 use crate::slice::is_live;
+use crate::slice::trailing;
 
 // What the live slots are measured against: slots up to `own` end at or before `offset`, slots above `above` start at or after
 // `bytes`, and there are no others; none is above `most` or ends after `capacity`.
@@ -86,7 +87,7 @@ fn slot_pass<'a>(
     }
 }
 
-// All slots.
+// The slots up to the last live one; those above it are free.
 pub(crate) fn slots_sound<'a>(
     starts: &'a [u32; 8],
     lengths: &'a [u32; 8],
@@ -95,9 +96,10 @@ pub(crate) fn slots_sound<'a>(
 ) -> bool
     ensures { λ r. ⌜ r ≡ passes (now (starts .entry)) (now (lengths .entry)) live b 8 0 0 ⌝ }
 {
+    let last = 8 - trailing(live);
     let mut i = 0;
     let mut end = 0;
-    while i < 8 {
+    while i < last {
         let slot = slot_pass(starts, lengths, live, b, i, end);
         if !slot.sound {
             return false;

@@ -3,6 +3,7 @@ ghost use mathlib.Core.Path.{_≡_};
 ghost use Prim.Native.Nat.{_+_, _≤_, _<_};
 ghost use lib.Dec.{leb, ltb};
 ghost use Rattle.buffer_pool.specs.Sound.{Orderly};
+ghost use Rattle.buffer_pool.specs.Placing.{isAlloc};
 ghost use Rattle.buffer_pool.specs.Steps as spec;
 use crate::buffer_pool::Answer;
 use crate::buffer_pool::BufferPool;
@@ -55,11 +56,14 @@ fn resized(p: BufferPool, len: u64) -> BufferPool
     ensures { λ r. ⌜ r ≡ spec.resized (p .mode) p len ⌝ }
 {
     let mode = p.mode;
+    let mut q = p;
+    q.reserved = 0;
     match mode {
-        PoolMode::Back => p.framed(PoolMode::Back, p.raw_offset, len, p.kept, p.cursor, 0),
-        PoolMode::Front(f) => p.framed(PoolMode::Front(f), p.raw_offset, len, p.kept, p.cursor, 0),
-        PoolMode::Alloc => p.framed(PoolMode::Alloc, p.raw_offset, p.raw_len, p.kept, len, 0),
+        PoolMode::Back => q.raw_len = len,
+        PoolMode::Front(_) => q.raw_len = len,
+        PoolMode::Alloc => q.cursor = len,
     }
+    q
 }
 
 // The record after a change of the frame's length, and the frame as the answer.
@@ -168,6 +172,38 @@ fn take_copied(p: BufferPool, destination: u64) -> Called
             0,
         ),
         answer: Answer::Copied(cursor),
+    }
+}
+
+// The number that a take to a destination of this length is refused with, or 0.
+pub(crate) fn take_refusal(p: BufferPool, destination: u64) -> u8
+    ensures { λ r. ⌜ r ≡ spec.refusal (spec.takeStep 8 p destination .answer) ⌝ }
+{
+    let whole = frame(p);
+    if whole.length == 0 {
+        return 0;
+    }
+    if in_overflow(p) {
+        if destination < whole.length {
+            return 6;
+        }
+        return 0;
+    }
+    if 4294967295 <= p.given {
+        return 8;
+    }
+    0
+}
+
+// Is the frame in the overflow?
+fn in_overflow(p: BufferPool) -> bool
+    ensures { λ r. ⌜ r ≡ isAlloc (p .mode) ⌝ }
+{
+    let mode = p.mode;
+    match mode {
+        PoolMode::Back => false,
+        PoolMode::Front(_) => false,
+        PoolMode::Alloc => true,
     }
 }
 

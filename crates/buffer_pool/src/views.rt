@@ -10,56 +10,33 @@ ghost use Rattle.buffer_pool.specs.Calls as spec;
 use crate::buffer_pool::BufferPool;
 use crate::buffer_pool::Memory;
 use crate::buffer_pool::Place;
+use crate::buffer_pool::View;
 use crate::calls::guard;
 use crate::calls::reservation;
 use crate::slice::Handle;
 use crate::steps;
 
-// Where a refused view lies.
-fn nowhere() -> Place
-    ensures { λ r. ⌜ r ≡ spec.hidden 0 .place ⌝ }
+// A refused view.
+fn hidden(number: u8) -> View
+    ensures { λ r. ⌜ r ≡ spec.hidden number ⌝ }
 {
-    Place {
-        memory: Memory::Pool,
-        start: 0,
-        length: 0,
+    View {
+        number: number,
+        place: Place {
+            memory: Memory::Pool,
+            start: 0,
+            length: 0,
+        },
     }
 }
 
-// Where the view of the frame lies.
-fn frame_place(p: BufferPool, pool: &[u8], overflow: &[u8]) -> Place
-    ensures { λ r. ⌜ r ≡ spec.frameView 8 p (memories (now (pool .entry)) (now (overflow .entry))) .place ⌝ }
+// A view that is not refused.
+fn shown(place: Place) -> View
+    ensures { λ r. ⌜ r ≡ spec.shown place ⌝ }
 {
-    if guard(p, pool, overflow) != 0 {
-        return nowhere();
-    }
-    steps::frame(p)
-}
-
-// Where the view of the reservation lies.
-fn reservation_place(p: BufferPool, pool: &[u8], overflow: &[u8]) -> Place
-    ensures { λ r. ⌜ r ≡ spec.reservationView 8 p (memories (now (pool .entry)) (now (overflow .entry))) .place ⌝ }
-{
-    if guard(p, pool, overflow) != 0 {
-        return nowhere();
-    }
-    reservation(p)
-}
-
-// Where the view of a handle's slice lies.
-fn slice_place(p: BufferPool, pool: &[u8], overflow: &[u8], h: Handle) -> Place
-    ensures { λ r. ⌜ r ≡ spec.sliceView 8 p (memories (now (pool .entry)) (now (overflow .entry))) h .place ⌝ }
-{
-    if guard(p, pool, overflow) != 0 {
-        return nowhere();
-    }
-    if !steps::names(p, h) {
-        return nowhere();
-    }
-    Place {
-        memory: Memory::Pool,
-        start: h.start as u64,
-        length: h.length as u64,
+    View {
+        number: 0,
+        place: place,
     }
 }
 
@@ -112,13 +89,53 @@ fn view_mut<'a>(pool: &'a mut [u8], overflow: &'a mut [u8], place: Place) -> &'a
 }
 
 impl BufferPool {
+    // Where the frame lies, by mode in the pool memory or in the overflow. Refused with 1 and 2.
+    pub fn frame_view(self, pool: &[u8], overflow: &[u8]) -> View
+        ensures { λ r. ⌜ r ≡ spec.frameView 8 self (memories (now (pool .entry)) (now (overflow .entry))) ⌝ }
+    {
+        let number = guard(self, pool, overflow);
+        if number != 0 {
+            return hidden(number);
+        }
+        shown(steps::frame(self))
+    }
+
+    // Where the reservation lies: after the frame, in the same memory. Refused with 1 and 2.
+    pub fn reservation_view(self, pool: &[u8], overflow: &[u8]) -> View
+        ensures { λ r. ⌜ r ≡ spec.reservationView 8 self (memories (now (pool .entry)) (now (overflow .entry))) ⌝ }
+    {
+        let number = guard(self, pool, overflow);
+        if number != 0 {
+            return hidden(number);
+        }
+        shown(reservation(self))
+    }
+
+    // Where the slice of a handle lies. Refused with 1, 2, and with 7 if the handle names no live slice.
+    pub fn slice_view(self, pool: &[u8], overflow: &[u8], h: Handle) -> View
+        ensures { λ r. ⌜ r ≡ spec.sliceView 8 self (memories (now (pool .entry)) (now (overflow .entry))) h ⌝ }
+    {
+        let number = guard(self, pool, overflow);
+        if number != 0 {
+            return hidden(number);
+        }
+        if !steps::names(self, h) {
+            return hidden(7);
+        }
+        shown(Place {
+            memory: Memory::Pool,
+            start: h.start as u64,
+            length: h.length as u64,
+        })
+    }
+
     // The frame, a part of the pool memory or of the overflow by mode. Refused with 1 and 2 (`frame_number`).
     pub fn frame<'a>(self, pool: &'a [u8], overflow: &'a [u8]) -> &'a [u8]
         ensures { λ r. ⌜ now r ≡ spec.bytesAt (memories (now (pool .entry)) (now (overflow .entry))) (spec.frameView 8 self (memories (now (pool .entry)) (now (overflow .entry))) .place) ⌝ }
         ensures { λ r. ⌜ ptr r ≡ spec.placeAt (ptr (pool .entry)) (ptr (overflow .entry)) (spec.frameView 8 self (memories (now (pool .entry)) (now (overflow .entry))) .place) ⌝ }
     {
-        let place = frame_place(self, pool, overflow);
-        view(pool, overflow, place)
+        let v = self.frame_view(pool, overflow);
+        view(pool, overflow, v.place)
     }
 
     // The same, to be written.
@@ -126,15 +143,16 @@ impl BufferPool {
         ensures { λ r. ⌜ now r ≡ spec.bytesAt (memories (now (pool .entry)) (now (overflow .entry))) (spec.frameView 8 self (memories (now (pool .entry)) (now (overflow .entry))) .place) ⌝ }
         ensures { λ r. ⌜ ptr r ≡ spec.placeAt (ptr (pool .entry)) (ptr (overflow .entry)) (spec.frameView 8 self (memories (now (pool .entry)) (now (overflow .entry))) .place) ⌝ }
     {
-        let place = frame_place(self, pool, overflow);
-        view_mut(pool, overflow, place)
+        let v = self.frame_view(pool, overflow);
+        view_mut(pool, overflow, v.place)
     }
 
     // The number of the refusal of a view of the frame, or 0.
     pub fn frame_number(self, pool: &[u8], overflow: &[u8]) -> u8
         ensures { λ r. ⌜ r ≡ spec.frameView 8 self (memories (now (pool .entry)) (now (overflow .entry))) .number ⌝ }
     {
-        guard(self, pool, overflow)
+        let v = self.frame_view(pool, overflow);
+        v.number
     }
 
     // The reservation, after the frame in the same memory. Refused with 1 and 2 (`reservation_number`).
@@ -142,8 +160,8 @@ impl BufferPool {
         ensures { λ r. ⌜ now r ≡ spec.bytesAt (memories (now (pool .entry)) (now (overflow .entry))) (spec.reservationView 8 self (memories (now (pool .entry)) (now (overflow .entry))) .place) ⌝ }
         ensures { λ r. ⌜ ptr r ≡ spec.placeAt (ptr (pool .entry)) (ptr (overflow .entry)) (spec.reservationView 8 self (memories (now (pool .entry)) (now (overflow .entry))) .place) ⌝ }
     {
-        let place = reservation_place(self, pool, overflow);
-        view(pool, overflow, place)
+        let v = self.reservation_view(pool, overflow);
+        view(pool, overflow, v.place)
     }
 
     // The same, to be written.
@@ -151,15 +169,16 @@ impl BufferPool {
         ensures { λ r. ⌜ now r ≡ spec.bytesAt (memories (now (pool .entry)) (now (overflow .entry))) (spec.reservationView 8 self (memories (now (pool .entry)) (now (overflow .entry))) .place) ⌝ }
         ensures { λ r. ⌜ ptr r ≡ spec.placeAt (ptr (pool .entry)) (ptr (overflow .entry)) (spec.reservationView 8 self (memories (now (pool .entry)) (now (overflow .entry))) .place) ⌝ }
     {
-        let place = reservation_place(self, pool, overflow);
-        view_mut(pool, overflow, place)
+        let v = self.reservation_view(pool, overflow);
+        view_mut(pool, overflow, v.place)
     }
 
     // The number of the refusal of a view of the reservation, or 0.
     pub fn reservation_number(self, pool: &[u8], overflow: &[u8]) -> u8
         ensures { λ r. ⌜ r ≡ spec.reservationView 8 self (memories (now (pool .entry)) (now (overflow .entry))) .number ⌝ }
     {
-        guard(self, pool, overflow)
+        let v = self.reservation_view(pool, overflow);
+        v.number
     }
 
     // The slice of a handle, a part of the pool memory; the overflow is only measured. Refused with 1, 2, and with 7 if the handle
@@ -168,8 +187,8 @@ impl BufferPool {
         ensures { λ r. ⌜ now r ≡ spec.bytesAt (memories (now (pool .entry)) (now (overflow .entry))) (spec.sliceView 8 self (memories (now (pool .entry)) (now (overflow .entry))) h .place) ⌝ }
         ensures { λ r. ⌜ ptr r ≡ spec.placeAt (ptr (pool .entry)) (ptr (overflow .entry)) (spec.sliceView 8 self (memories (now (pool .entry)) (now (overflow .entry))) h .place) ⌝ }
     {
-        let place = slice_place(self, pool, overflow, h);
-        part(pool, place)
+        let v = self.slice_view(pool, overflow, h);
+        part(pool, v.place)
     }
 
     // The same, to be written.
@@ -177,21 +196,15 @@ impl BufferPool {
         ensures { λ r. ⌜ now r ≡ spec.bytesAt (memories (now (pool .entry)) (now (overflow .entry))) (spec.sliceView 8 self (memories (now (pool .entry)) (now (overflow .entry))) h .place) ⌝ }
         ensures { λ r. ⌜ ptr r ≡ spec.placeAt (ptr (pool .entry)) (ptr (overflow .entry)) (spec.sliceView 8 self (memories (now (pool .entry)) (now (overflow .entry))) h .place) ⌝ }
     {
-        let place = slice_place(self, pool, overflow, h);
-        part_mut(pool, place)
+        let v = self.slice_view(pool, overflow, h);
+        part_mut(pool, v.place)
     }
 
     // The number of the refusal of a view of the handle's slice, or 0.
     pub fn slice_number(self, pool: &[u8], overflow: &[u8], h: Handle) -> u8
         ensures { λ r. ⌜ r ≡ spec.sliceView 8 self (memories (now (pool .entry)) (now (overflow .entry))) h .number ⌝ }
     {
-        let number = guard(self, pool, overflow);
-        if number != 0 {
-            return number;
-        }
-        if !steps::names(self, h) {
-            return 7;
-        }
-        0
+        let v = self.slice_view(pool, overflow, h);
+        v.number
     }
 }

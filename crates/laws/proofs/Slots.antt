@@ -291,3 +291,16 @@ first-after-none w live b hb e =
     (ap (bit live) {y = w - (q - b) - b} (omega arith) ∙ sym (bit-shl w live b (w - (q - b)) (omega arith) (omega arith))
     ∙ ap (λ (x : ℕ). bit x (w - (q - b))) e ∙ bit-past zero (w - (q - b)) (pow-pos (w - (q - b)))))
     ∙ omega arith
+
+-- no slot is live above the last one
+pub none-above : (w live q : ℕ) → live < 2 ^ w → w - trailingZeros w live < q → q ≤ w → liveAt w live q ≡ false
+none-above w live q h a m = go (eq-zero-or-pos live)
+  where
+    whole : live / 2 ^ (w - w) ≡ live
+    whole = ap (λ (x : ℕ). live / 2 ^ x) {y = 0} (omega arith) ∙ omega arith
+
+    go : (live ≡ zero) ⊎ (zero < live) → liveAt w live q ≡ false
+    go (inl e) = is-free w live q (ap (λ (x : ℕ). bit x (w - q)) e ∙ bit-past zero (w - q) (pow-pos (w - q)))
+    go (inr l) =
+        last w live w (le-refl w) h (subst (λ (x : ℕ). zero < x) (sym whole) l) .none q
+        (subst (λ (x : ℕ). w - trailingZeros w x < q) (sym whole) a) m

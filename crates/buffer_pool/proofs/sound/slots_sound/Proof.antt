@@ -8,10 +8,17 @@ use Rattle.buffer_pool.proofs.sound.slots_sound.Statement.{statement}
 use Rattle.buffer_pool.proofs.sound.slots_sound.Tie as tie
 
 abbrev Inv-loop : tie.InvT-loop
-Inv-loop starts lengths live b i₀ end₀ i end = (i ≤ 8) × (passes starts lengths live b 8 0 0 ≡ passes starts lengths live b (8 - i) i end)
+Inv-loop starts lengths live b last i₀ end₀ i end =
+    (i ≤ last) × (last ≤ 8) × (passes starts lengths live b 8 0 0 ≡ passes starts lengths live b (8 - i) i end)
 
 abbrev μ-loop : tie.MeasureT-loop
-μ-loop starts lengths live b i₀ end₀ i end = 8 - i
+μ-loop starts lengths live b last i₀ end₀ i end = last - i
+
+trailing-requires : tie.Need-trailing-requires Inv-loop μ-loop
+trailing-requires c κs = search needs
+
+sub-last : tie.Need-sub-last Inv-loop μ-loop
+sub-last c = search needs
 
 loop-holds : tie.Need-loop-holds Inv-loop μ-loop
 loop-holds c = search (needs)
@@ -32,7 +39,7 @@ loop-again : tie.Need-loop-again Inv-loop μ-loop
 loop-again c = search (passes-more, needs)
 
 returns-2 : tie.Need-returns-2 Inv-loop μ-loop
-returns-2 c = search passes-all
+returns-2 c = search (passes-all, needs)
 
 pub slots-sound-spec : {M : Type 1} → statement M
 slots-sound-spec =
@@ -40,6 +47,8 @@ slots-sound-spec =
     (tie.spec
     Inv-loop
     μ-loop
+    trailing-requires
+    sub-last
     loop-holds
     slot-pass-requires
     returns

@@ -7,20 +7,11 @@ use Rattle.buffer_pool.proofs.steps.resized.Tie as tie
 enum-told : tie.Need-enum-told
 enum-told c = search needs
 
-framed-requires : tie.Need-framed-requires
-framed-requires c κs = search needs
-
-enum-known-mode : tie.Need-enum-known-mode
-enum-known-mode c = search needs
-
-framed-requires-2 : tie.Need-framed-requires-2
-framed-requires-2 c κs = search needs
-
 enum-told-2 : tie.Need-enum-told-2
 enum-told-2 c = search needs
 
-framed-requires-3 : tie.Need-framed-requires-3
-framed-requires-3 c κs = search needs
+enum-told-3 : tie.Need-enum-told-3
+enum-told-3 c = search needs
 
 returns : tie.Need-returns
 returns c = search resized-back
@@ -32,15 +23,4 @@ returns-3 : tie.Need-returns-3
 returns-3 c = search resized-alloc
 
 pub resized-spec : {M : Type 1} → statement M
-resized-spec =
-    tie.close
-    (tie.spec
-    enum-told
-    framed-requires
-    enum-known-mode
-    framed-requires-2
-    enum-told-2
-    framed-requires-3
-    returns
-    returns-2
-    returns-3)
+resized-spec = tie.close (tie.spec enum-told enum-told-2 enum-told-3 returns returns-2 returns-3)

@@ -4,8 +4,8 @@ use borrow.Author.Needs.{needs}
 use Rattle.buffer_pool.proofs.buffer_pool.BufferPool.frame.Statement.{statement}
 use Rattle.buffer_pool.proofs.buffer_pool.BufferPool.frame.Tie as tie
 
-frame-place-requires : tie.Need-frame-place-requires
-frame-place-requires c κs = search needs
+frame-view-requires : tie.Need-frame-view-requires
+frame-view-requires c κs = search needs
 
 view-requires : tie.Need-view-requires
 view-requires c κs = search frame-lies
@@ -14,4 +14,4 @@ returns : tie.Need-returns
 returns c = (search bytes-there, search pointer-there)
 
 pub frame-spec : {M : Type 1} → statement M
-frame-spec = tie.close (tie.spec frame-place-requires view-requires returns)
+frame-spec = tie.close (tie.spec frame-view-requires view-requires returns)

@@ -4,8 +4,8 @@ use borrow.Author.Needs.{needs}
 use Rattle.buffer_pool.proofs.buffer_pool.BufferPool.frame_mut.Statement.{statement}
 use Rattle.buffer_pool.proofs.buffer_pool.BufferPool.frame_mut.Tie as tie
 
-frame-place-requires : tie.Need-frame-place-requires
-frame-place-requires c κs = search needs
+frame-view-requires : tie.Need-frame-view-requires
+frame-view-requires c κs = search needs
 
 view-mut-requires : tie.Need-view-mut-requires
 view-mut-requires c κs = search frame-lies
@@ -14,4 +14,4 @@ returns : tie.Need-returns
 returns c = (search bytes-there, search pointer-there)
 
 pub frame-mut-spec : {M : Type 1} → statement M
-frame-mut-spec = tie.close (tie.spec frame-place-requires view-mut-requires returns)
+frame-mut-spec = tie.close (tie.spec frame-view-requires view-mut-requires returns)

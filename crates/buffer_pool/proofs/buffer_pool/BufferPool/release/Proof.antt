@@ -4,8 +4,8 @@ use borrow.Author.Needs.{needs}
 use Rattle.buffer_pool.proofs.buffer_pool.BufferPool.release.Statement.{statement}
 use Rattle.buffer_pool.proofs.buffer_pool.BufferPool.release.Tie as tie
 
-guard-requires : tie.Need-guard-requires
-guard-requires c κs = search needs
+release-cause-requires : tie.Need-release-cause-requires
+release-cause-requires c κs = search needs
 
 refused-requires : tie.Need-refused-requires
 refused-requires c κs = search needs
@@ -20,5 +20,4 @@ returns-2 : tie.Need-returns-2
 returns-2 c = search release-through
 
 pub release-spec : {M : Type 1} → statement M
-release-spec =
-    tie.close (tie.spec guard-requires refused-requires returns release-step-requires returns-2)
+release-spec = tie.close (tie.spec release-cause-requires refused-requires returns release-step-requires returns-2)

@@ -4,8 +4,8 @@ use borrow.Author.Needs.{needs}
 use Rattle.buffer_pool.proofs.buffer_pool.BufferPool.reservation.Statement.{statement}
 use Rattle.buffer_pool.proofs.buffer_pool.BufferPool.reservation.Tie as tie
 
-reservation-place-requires : tie.Need-reservation-place-requires
-reservation-place-requires c κs = search needs
+reservation-view-requires : tie.Need-reservation-view-requires
+reservation-view-requires c κs = search needs
 
 view-requires : tie.Need-view-requires
 view-requires c κs = search reservation-lies
@@ -14,4 +14,4 @@ returns : tie.Need-returns
 returns c = (search bytes-there, search pointer-there)
 
 pub reservation-spec : {M : Type 1} → statement M
-reservation-spec = tie.close (tie.spec reservation-place-requires view-requires returns)
+reservation-spec = tie.close (tie.spec reservation-view-requires view-requires returns)

@@ -4,8 +4,8 @@ use borrow.Author.Needs.{needs}
 use Rattle.buffer_pool.proofs.buffer_pool.BufferPool.reservation_mut.Statement.{statement}
 use Rattle.buffer_pool.proofs.buffer_pool.BufferPool.reservation_mut.Tie as tie
 
-reservation-place-requires : tie.Need-reservation-place-requires
-reservation-place-requires c κs = search needs
+reservation-view-requires : tie.Need-reservation-view-requires
+reservation-view-requires c κs = search needs
 
 view-mut-requires : tie.Need-view-mut-requires
 view-mut-requires c κs = search reservation-lies
@@ -14,4 +14,4 @@ returns : tie.Need-returns
 returns c = (search bytes-there, search pointer-there)
 
 pub reservation-mut-spec : {M : Type 1} → statement M
-reservation-mut-spec = tie.close (tie.spec reservation-place-requires view-mut-requires returns)
+reservation-mut-spec = tie.close (tie.spec reservation-view-requires view-mut-requires returns)

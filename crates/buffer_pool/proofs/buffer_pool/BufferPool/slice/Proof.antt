@@ -4,8 +4,8 @@ use borrow.Author.Needs.{needs}
 use Rattle.buffer_pool.proofs.buffer_pool.BufferPool.slice.Statement.{statement}
 use Rattle.buffer_pool.proofs.buffer_pool.BufferPool.slice.Tie as tie
 
-slice-place-requires : tie.Need-slice-place-requires
-slice-place-requires c κs = search needs
+slice-view-requires : tie.Need-slice-view-requires
+slice-view-requires c κs = search needs
 
 part-requires : tie.Need-part-requires
 part-requires c κs = search slice-within
@@ -14,4 +14,4 @@ returns : tie.Need-returns
 returns c = (search slice-bytes, search slice-pointer)
 
 pub slice-spec : {M : Type 1} → statement M
-slice-spec = tie.close (tie.spec slice-place-requires part-requires returns)
+slice-spec = tie.close (tie.spec slice-view-requires part-requires returns)

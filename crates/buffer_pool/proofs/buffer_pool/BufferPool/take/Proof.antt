@@ -1,12 +1,12 @@
 -- `buffer_pool::BufferPool::take` meets its contract. Assumes nothing.
 use denote.Ref.{now}
-use Rattle.buffer_pool.proofs.CallLaws.{through-orderly, through-capacity, take-turned, take-nothing, copied-kept, copied-to, kept-in, take-copies}
+use Rattle.buffer_pool.proofs.CallLaws.{own-orderly, own-capacity, take-turned, take-nothing, copied-kept, copied-to, kept-in, take-copies}
 use borrow.Author.Needs.{needs}
 use Rattle.buffer_pool.proofs.buffer_pool.BufferPool.take.Statement.{statement}
 use Rattle.buffer_pool.proofs.buffer_pool.BufferPool.take.Tie as tie
 
-guard-requires : tie.Need-guard-requires
-guard-requires c κs = search needs
+take-cause-requires : tie.Need-take-cause-requires
+take-cause-requires c κs = search needs
 
 refused-requires : tie.Need-refused-requires
 refused-requires c κs = search needs
@@ -18,7 +18,7 @@ returns : tie.Need-returns
 returns c = search take-turned
 
 take-step-requires : tie.Need-take-step-requires
-take-step-requires c κs = search (through-orderly, through-capacity)
+take-step-requires c κs = search (own-orderly, own-capacity)
 
 copied-length-requires : tie.Need-copied-length-requires
 copied-length-requires c κs = search needs
@@ -41,7 +41,7 @@ same-length-4 c = search needs
 returns-3 : tie.Need-returns-3
 returns-3 c =
     let a = c .before .before .before .before .before .before .before .before .before .before .before .before .before .before .before .before .args in
-    let g = c .before .before .before .before .before .before .before .before .before .before .before .guard in
+    let g = c .before .before .before .before .before .before .before .before .before .before .before .take-cause in
     let t = c .before .before .before .before .before .before .before .before .before .take-step in
     let l = c .before .before .before .before .before .before .before .before .copied-length in
     let o = c .before .before .before .before .copy-out in
@@ -52,7 +52,7 @@ pub take-spec : {M : Type 1} → statement M
 take-spec =
     tie.close
     (tie.spec
-    guard-requires
+    take-cause-requires
     refused-requires
     same-length
     returns
