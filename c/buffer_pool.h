@@ -1,0 +1,192 @@
+/* The proved frame pool, for C and C++ on x86-64. Link target/staticlib/libbuffer_pool_c.a.
+ *
+ * A frame is the bytes being gathered for one entry. A reservation is the range last offered to extend it. A slice is a
+ * finished frame that lives in the pool until it is released; a pool has eight slots for slices. The overflow is a second
+ * memory, which takes a frame that the pool has no place for; such a frame is copied out when it is taken.
+ *
+ * A pool is a record and two lent memories: the pool memory and the overflow. The caller keeps all three and lends them to
+ * every call. No call allocates, waits, or keeps a pointer. Every call answers, for every record, handle and length, with a
+ * result or a refusal:
+ *
+ *   1  the record fails the soundness test (a mode that is no mode among others)
+ *   2  a lent memory's length is not the record's
+ *   3  new: either memory has more than 1,048,576 bytes
+ *   4  reserve: the overflow would be used, and frame and reservation together exceed it
+ *   5  commit: the length exceeds the reservation
+ *   6  take: the frame lies in the overflow and is longer than the destination
+ *   7  release, slice: the handle's slot is not 1 to 8 or not live, or start, length or serial are not that slot's
+ *   8  take: the frame is not empty, lies in the pool, and all 4,294,967,295 serials were given
+ *
+ * They are tested in this order: 1, 2, then the call's own; new gives only 3. A refused call changes nothing: the record, both
+ * memories and the destination keep every byte, and every number of its result but the refusal is 0. What is not refused has
+ * refusal 0.
+ *
+ * What a caller must see to, as no callee can: a pointer points to as many bytes as the length beside it says, also if that is 0
+ * (any pointer that is not null will do then); record, pool memory, overflow and destination have no byte in common; one call at
+ * a time is made on a pool.
+ *
+ * How long a place is right. A slice's place stays from its take to its release, and no call writes its bytes. The frame's place
+ * stays until the next reserve, which may move the frame, or take; commit and truncate change its length alone. The
+ * reservation's place stays until the next reserve, commit, truncate or take. A refused call ends nothing.
+ */
+#ifndef BUFFER_POOL_H
+#define BUFFER_POOL_H
+
+#include <stddef.h>
+#include <stdint.h>
+
+#ifdef __cplusplus
+extern "C" {
+#endif
+
+/* How many slices can live in a pool, and the most bytes that either memory may have. */
+#define BUFFER_POOL_SLOTS 8
+#define BUFFER_POOL_BYTE_LIMIT 1048576
+
+/* Where the frame is gathered: the numbers of a record's mode. */
+enum {
+    BUFFER_POOL_BACK = 0,    /* after the slices of the back */
+    BUFFER_POOL_FRONT = 1,   /* in the front, below the slices of the back */
+    BUFFER_POOL_OVERFLOW = 2 /* in the overflow */
+};
+
+/* Which memory a place lies in. */
+enum {
+    BUFFER_POOL_POOL_MEMORY = 0,
+    BUFFER_POOL_OVERFLOW_MEMORY = 1
+};
+
+/* The refusals. */
+enum {
+    BUFFER_POOL_DONE = 0,
+    BUFFER_POOL_UNSOUND = 1,
+    BUFFER_POOL_WRONG_LENGTH = 2,
+    BUFFER_POOL_MEMORY_TOO_LONG = 3,
+    BUFFER_POOL_OVERFLOW_TOO_SHORT = 4,
+    BUFFER_POOL_COMMIT_TOO_LONG = 5,
+    BUFFER_POOL_DESTINATION_TOO_SHORT = 6,
+    BUFFER_POOL_NOT_LIVE = 7,
+    BUFFER_POOL_NO_SERIALS = 8
+};
+
+/* The pool's record. buffer_pool_new makes it and the calls change it; a caller may read and copy it. It may be kept anywhere,
+ * but its bytes are the pool's only knowledge of its memories: two copies of a record used on the same memories are two pools
+ * that do not know of each other. */
+typedef struct {
+    uint64_t capacity;                   /* length of the pool memory */
+    uint64_t overflow;                   /* length of the overflow */
+    uint32_t starts[BUFFER_POOL_SLOTS];  /* start, */
+    uint32_t lengths[BUFFER_POOL_SLOTS]; /* length */
+    uint32_t serials[BUFFER_POOL_SLOTS]; /* and serial of the slice last taken in each slot; slot 1 comes first */
+    uint32_t given;                      /* serials given */
+    uint8_t live;                        /* slot p is live if the bit 0x80 >> (p - 1) is set */
+    uint8_t mode;                        /* BUFFER_POOL_BACK, .._FRONT or .._OVERFLOW */
+    size_t back_start;                   /* the slots before the back */
+    size_t back_len;                     /* the slots of the back */
+    size_t used;                         /* slots used */
+    uint64_t raw_offset;                 /* start */
+    uint64_t raw_len;                    /* and length of a frame in the pool */
+    size_t front_back_start;             /* slots of the front; these three are read only in mode front */
+    uint64_t front_byte_capacity;        /* bytes of the front */
+    size_t front_len;                    /* used slots of the front */
+    uint64_t kept;                       /* bytes kept in the overflow */
+    uint64_t cursor;                     /* length of a frame in the overflow */
+    uint64_t reserved;                   /* length of the reservation, 0 once it is spent */
+} buffer_pool_record;
+
+/* The layout that the archive was made for. */
+typedef char buffer_pool_record_has_208_bytes[sizeof(buffer_pool_record) == 208 ? 1 : -1];
+
+/* A range of bytes: length bytes from start on, in the memory that is named. */
+typedef struct {
+    uint64_t start;
+    uint64_t length;
+    uint8_t memory; /* BUFFER_POOL_POOL_MEMORY or BUFFER_POOL_OVERFLOW_MEMORY */
+} buffer_pool_place;
+
+/* Names a slice. It is plain data: once the slice is released, the handle is refused with 7. */
+typedef struct {
+    uint32_t start;  /* the slice's place in the pool memory */
+    uint32_t length;
+    uint32_t serial; /* 1, 2, 3, .. over all takes that gave a slice */
+    uint8_t slot;    /* 1 to 8 */
+} buffer_pool_handle;
+
+/* What a reserve gives. */
+typedef struct {
+    buffer_pool_place place; /* the reservation */
+    uint32_t changes;        /* how often the mode changed, at most twice */
+    uint8_t refusal;
+} buffer_pool_reserved;
+
+/* What commit, truncate and the views give. */
+typedef struct {
+    buffer_pool_place place;
+    uint8_t refusal;
+} buffer_pool_placed;
+
+/* What a take gives: a slice, or with handle.slot 0 the count of bytes that were copied to the destination. */
+typedef struct {
+    buffer_pool_handle handle;
+    uint64_t copied; /* 0 for a slice and for an empty frame */
+    uint8_t refusal;
+} buffer_pool_taken;
+
+/* What new gives. */
+typedef struct {
+    buffer_pool_record record;
+    uint8_t refusal;
+} buffer_pool_created;
+
+/* Makes a pool. The pool memory is filled with zeros; the overflow counts as empty and its bytes stay.
+ * Refuses with 3; the record is then that of a new pool whose two lengths are 0. */
+buffer_pool_created buffer_pool_new(uint8_t *pool, size_t pool_len, const uint8_t *overflow, size_t overflow_len);
+
+/* Makes room for len more bytes after the frame and gives their place and the count of mode changes. May move the frame within
+ * the pool, to the overflow, or back; a reservation not yet committed is given up. The bytes offered are those that earlier
+ * frames left there, or zeros.
+ * Refuses with 1, 2 and 4; mode, frame and reservation then stay, too. */
+buffer_pool_reserved buffer_pool_reserve(buffer_pool_record *record, uint8_t *pool, size_t pool_len, uint8_t *overflow,
+                                         size_t overflow_len, uint64_t len);
+
+/* The first n bytes of the reservation join the frame; gives the frame's place. The reservation is spent: empty, at the frame's
+ * end.
+ * Refuses with 1, 2 and 5; the reservation then stays, too. */
+buffer_pool_placed buffer_pool_commit(buffer_pool_record *record, const uint8_t *pool, size_t pool_len,
+                                      const uint8_t *overflow, size_t overflow_len, uint64_t n);
+
+/* The frame keeps at most its first n bytes; gives the frame's place. The reservation is spent, even if nothing is cut.
+ * Refuses with 1 and 2. */
+buffer_pool_placed buffer_pool_truncate(buffer_pool_record *record, const uint8_t *pool, size_t pool_len,
+                                        const uint8_t *overflow, size_t overflow_len, uint64_t n);
+
+/* Finishes the frame. A frame in the pool becomes a slice, and its handle is given. A frame in the overflow is copied to the start
+ * of the destination, and its length is given; all other bytes of the destination stay. An empty frame gives slot 0 and
+ * length 0. The next frame is empty, and the reservation is spent.
+ * Refuses with 1, 2, 6 and 8; frame, reservation and destination then stay, too. A destination as long as the overflow is never
+ * too short. */
+buffer_pool_taken buffer_pool_take(buffer_pool_record *record, const uint8_t *pool, size_t pool_len, uint8_t *overflow,
+                                   size_t overflow_len, uint8_t *destination, size_t destination_len);
+
+/* Frees the slice's slot; its bytes may be used by the next reserve. Gives the refusal, or 0.
+ * Refuses with 1, 2 and 7. */
+uint8_t buffer_pool_release(buffer_pool_record *record, const uint8_t *pool, size_t pool_len, const uint8_t *overflow,
+                            size_t overflow_len, buffer_pool_handle handle);
+
+/* The views: where the frame, the reservation or a slice lies, so that its bytes can be read and written there, never a copy. They
+ * change nothing. A refused view has length 0.
+ * Refuse with 1 and 2; slice also with 7. */
+buffer_pool_placed buffer_pool_frame(const buffer_pool_record *record, const uint8_t *pool, size_t pool_len,
+                                     const uint8_t *overflow, size_t overflow_len);
+
+buffer_pool_placed buffer_pool_reservation(const buffer_pool_record *record, const uint8_t *pool, size_t pool_len,
+                                           const uint8_t *overflow, size_t overflow_len);
+
+buffer_pool_placed buffer_pool_slice(const buffer_pool_record *record, const uint8_t *pool, size_t pool_len,
+                                     const uint8_t *overflow, size_t overflow_len, buffer_pool_handle handle);
+
+#ifdef __cplusplus
+}
+#endif
+
+#endif

@@ -1,0 +1,94 @@
+/* The page-turn log of an e-book reader: three entries are written, one of them too long for the pool; they are read and released,
+ * one of them twice. c/run builds it and compares what it prints. */
+#include "buffer_pool.h"
+
+#include <stdio.h>
+#include <stdlib.h>
+#include <string.h>
+
+/* The memories of the log, and where an entry goes that leaves the overflow. */
+static uint8_t pool[32];
+static uint8_t overflow[24];
+static uint8_t page[sizeof overflow];
+
+static buffer_pool_record record;
+
+/* Ends the program if a call that must be done was refused. */
+static void done(const char *call, uint8_t refusal)
+{
+    if (refusal != BUFFER_POOL_DONE) {
+        printf("%s: refused with %d\n", call, refusal);
+        exit(1);
+    }
+}
+
+/* The first byte of a place. */
+static uint8_t *bytes_at(buffer_pool_place place)
+{
+    return (place.memory == BUFFER_POOL_OVERFLOW_MEMORY ? overflow : pool) + place.start;
+}
+
+/* Writes one entry: reserve, write, commit, take. */
+static buffer_pool_taken write_entry(const char *text)
+{
+    size_t len = strlen(text);
+
+    buffer_pool_reserved reserved =
+        buffer_pool_reserve(&record, pool, sizeof pool, overflow, sizeof overflow, len);
+    done("reserve", reserved.refusal);
+    memcpy(bytes_at(reserved.place), text, len);
+
+    buffer_pool_placed frame = buffer_pool_commit(&record, pool, sizeof pool, overflow, sizeof overflow, len);
+    done("commit", frame.refusal);
+
+    buffer_pool_taken taken =
+        buffer_pool_take(&record, pool, sizeof pool, overflow, sizeof overflow, page, sizeof page);
+    done("take", taken.refusal);
+    return taken;
+}
+
+/* Prints an entry that lives in the pool, as its view shows it. */
+static void print_slice(const char *name, buffer_pool_handle handle)
+{
+    buffer_pool_placed view =
+        buffer_pool_slice(&record, pool, sizeof pool, overflow, sizeof overflow, handle);
+    done("slice", view.refusal);
+    printf("%s: slot %u, start %u, length %u, serial %u: %.*s\n", name, (unsigned)handle.slot, (unsigned)handle.start,
+           (unsigned)handle.length, (unsigned)handle.serial, (int)view.place.length, (const char *)bytes_at(view.place));
+}
+
+static uint8_t release(buffer_pool_handle handle)
+{
+    return buffer_pool_release(&record, pool, sizeof pool, overflow, sizeof overflow, handle);
+}
+
+int main(void)
+{
+    buffer_pool_created created = buffer_pool_new(pool, sizeof pool, overflow, sizeof overflow);
+    done("new", created.refusal);
+    record = created.record;
+
+    buffer_pool_taken first = write_entry("page 12");
+    buffer_pool_taken second = write_entry("page 13, 41 s");
+    print_slice("first", first.handle);
+    print_slice("second", second.handle);
+
+    /* 20 bytes of the pool are held, so 20 more go to the overflow. */
+    buffer_pool_taken third = write_entry("page 14, large print");
+    printf("third: slot %u, copied %d: %.*s\n", (unsigned)third.handle.slot, (int)third.copied, (int)third.copied,
+           (const char *)page);
+
+    done("release", release(first.handle));
+    printf("first released, live slots %02x\n", (unsigned)record.live);
+    printf("first released again: refused with %u\n", (unsigned)release(first.handle));
+    done("release", release(second.handle));
+    printf("second released, live slots %02x\n", (unsigned)record.live);
+
+    /* No slice is live, so the whole pool is free again. */
+    buffer_pool_reserved next =
+        buffer_pool_reserve(&record, pool, sizeof pool, overflow, sizeof overflow, sizeof pool);
+    done("reserve", next.refusal);
+    printf("next: start %d, length %d, mode %u, changes %u\n", (int)next.place.start, (int)next.place.length,
+           (unsigned)record.mode, (unsigned)next.changes);
+    return 0;
+}

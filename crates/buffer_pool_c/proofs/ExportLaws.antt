@@ -1,0 +1,86 @@
+-- The exported calls, from what the code of by_value.rt knows where it returns. Assumes nothing.
+use mathlib.Core.Path.{_≡_, refl, ap, _∙_}
+use mathlib.Core.Bool.{Bool, true, false, not}
+use mathlib.Core.List.{List, []}
+use Prim.Native.Nat.{ℕ}
+use Rattle.laws.specs.Tests.{pick}
+use Rattle.laws.proofs.Tests.{not-true, not-false}
+use Rattle.buffer_pool.specs.declared.slice.Handle as pool
+use Rattle.buffer_pool.specs.declared.buffer_pool.BufferPool.{BufferPool}
+use Rattle.buffer_pool.specs.declared.buffer_pool.PoolFront.{PoolFront}
+use Rattle.buffer_pool.specs.declared.buffer_pool.Answer.{Answer}
+use Rattle.buffer_pool.specs.declared.buffer_pool.Answer.the-variants.{Refused}
+use Rattle.buffer_pool.specs.declared.buffer_pool.Called.{Called}
+use Rattle.buffer_pool.specs.declared.buffer_pool.View.{View}
+use Rattle.buffer_pool.specs.Moves.{Memories}
+use Rattle.buffer_pool.specs.Steps.{refusal}
+use Rattle.buffer_pool.specs.Calls as calls
+use Rattle.buffer_pool.specs.Calls.{Outcome, outcome, hidden}
+use Rattle.buffer_pool_c.specs.declared.record.Record.{Record}
+use Rattle.buffer_pool_c.specs.declared.results.Handle.{Handle}
+use Rattle.buffer_pool_c.specs.declared.results.ReserveResult.{ReserveResult}
+use Rattle.buffer_pool_c.specs.declared.results.PlaceResult.{PlaceResult}
+use Rattle.buffer_pool_c.specs.declared.results.TakeResult.{TakeResult}
+use Rattle.buffer_pool_c.specs.Record.{known, noFront, poolOf, recordOf, recordAfter}
+use Rattle.buffer_pool_c.specs.Results.{reserveResult, placeResult, takeResult, viewResult, named}
+use Rattle.buffer_pool_c.specs.Exports.{left, seen, exported, reserve, commit, truncate, take, release, newly, new, exportedView, frame, reservation, slice}
+
+-- ---- A call, by whether the record's mode is known
+
+module _ {A : Type 0} (result : Answer → A) (r : Record) (b : Bool) (e : b ≡ known (r .mode)) (m : Memories) (destination : List ℕ) (o : Outcome) (x : A) where
+  pub turned : not b ≡ true → x ≡ result (Refused 1) → left x r m destination ≡ exported result r m destination o
+  turned t f = rw (← e, not-true b t, f) refl
+
+  through : not b ≡ false → (c : Called) (after : Memories) (ended : List ℕ) → outcome c after ended ≡ o → x ≡ result (c .answer)
+      → (h : Record) → h ≡ recordAfter r (c .pool) → left x h after ended ≡ exported result r m destination o
+  through t c after ended g f h i = rw (← e, not-false b t, f, i) (ap (seen result r) g)
+
+-- what the direct call left on the pool's record is what the exported call leaves
+module _ (r : Record) (b : Bool) (e : b ≡ known (r .mode)) (t : not b ≡ false) (p : BufferPool) (i : p ≡ poolOf r) (m : Memories) (c : Called) (after : Memories) (h : Record) (f : h ≡ recordAfter r (c .pool)) where
+  pub reserve-through : (len : ℕ) → outcome c after [] ≡ calls.reserve 8 p m len → (x : ReserveResult) → x ≡ reserveResult (c .answer) → left x h after [] ≡ reserve r m len
+  unfolding reserve
+  reserve-through len g x k = through reserveResult r b e m [] _ x t c after [] (g ∙ ap (λ (q : BufferPool). calls.reserve 8 q m len) i) k h f
+
+  pub commit-through : (n : ℕ) → outcome c after [] ≡ calls.commit 8 p m n → (x : PlaceResult) → x ≡ placeResult (c .answer) → left x h after [] ≡ commit r m n
+  unfolding commit
+  commit-through n g x k = through placeResult r b e m [] _ x t c after [] (g ∙ ap (λ (q : BufferPool). calls.commit 8 q m n) i) k h f
+
+  pub truncate-through : (n : ℕ) → outcome c after [] ≡ calls.truncate 8 p m n → (x : PlaceResult) → x ≡ placeResult (c .answer) → left x h after [] ≡ truncate r m n
+  unfolding truncate
+  truncate-through n g x k = through placeResult r b e m [] _ x t c after [] (g ∙ ap (λ (q : BufferPool). calls.truncate 8 q m n) i) k h f
+
+  pub take-through : (d ended : List ℕ) → outcome c after ended ≡ calls.take 8 p m d → (x : TakeResult) → x ≡ takeResult (c .answer) → left x h after ended ≡ take r m d
+  unfolding take
+  take-through d ended g x k = through takeResult r b e m d _ x t c after ended (g ∙ ap (λ (q : BufferPool). calls.take 8 q m d) i) k h f
+
+  pub release-through : (a : Handle) (n : pool.Handle) → n ≡ named a → outcome c after [] ≡ calls.release 8 p m n → (x : ℕ) → x ≡ refusal (c .answer) → left x h after [] ≡ release r m a
+  unfolding release
+  release-through a n j g x k = through refusal r b e m [] (calls.release 8 (poolOf r) m (named a)) x t c after [] (g ∙ rw (i, j) refl) k h f
+
+-- ---- Views
+
+module _ (r : Record) (b : Bool) (e : b ≡ known (r .mode)) (x : PlaceResult) where
+  pub turned-view : not b ≡ true → (v : View) → x ≡ viewResult (hidden 1) → x ≡ exportedView r v
+  turned-view t v f = f ∙ rw (← e, not-true b t) refl
+
+  view-through : not b ≡ false → (v w : View) → v ≡ w → x ≡ viewResult v → x ≡ exportedView r w
+  view-through t v w g f = f ∙ rw (← e, not-false b t, g) refl
+
+  module _ (t : not b ≡ false) (p : BufferPool) (i : p ≡ poolOf r) (m : Memories) (v : View) (k : x ≡ viewResult v) where
+    pub frame-through : v ≡ calls.frameView 8 p m → x ≡ frame r m
+    unfolding frame
+    frame-through g = view-through t v (calls.frameView 8 (poolOf r) m) (g ∙ ap (λ (q : BufferPool). calls.frameView 8 q m) i) k
+
+    pub reservation-through : v ≡ calls.reservationView 8 p m → x ≡ reservation r m
+    unfolding reservation
+    reservation-through g = view-through t v (calls.reservationView 8 (poolOf r) m) (g ∙ ap (λ (q : BufferPool). calls.reservationView 8 q m) i) k
+
+    pub slice-through : (a : Handle) (n : pool.Handle) → n ≡ named a → v ≡ calls.sliceView 8 p m n → x ≡ slice r m a
+    unfolding slice
+    slice-through a n j g = view-through t v (calls.sliceView 8 (poolOf r) m (named a)) (g ∙ rw (i, j) refl) k
+
+-- ---- New
+
+pub new-as : (c : Called) (m after : Memories) → outcome c after [] ≡ calls.new 8 m → (n : ℕ) → n ≡ refusal (c .answer) → (before : PoolFront) → before ≡ noFront → (h : Record) → h ≡ recordOf before (c .pool) → left n h after [] ≡ new m
+unfolding new
+new-as c m after g n f before v h i = rw (f, i, v) (ap newly g)

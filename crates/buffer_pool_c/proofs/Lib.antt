@@ -1,0 +1,10 @@
+pub mod RecordLaws
+pub mod ResultLaws
+pub mod ExportLaws
+pub mod Thin
+pub mod ThinContract
+pub mod Answers
+pub mod ThinKept
+pub mod ThinSeen
+pub mod ThinRelent
+pub mod RefusedKeeps

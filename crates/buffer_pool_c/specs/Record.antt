@@ -1,0 +1,95 @@
+-- The record as C holds it: the pool's record with its mode as a number.
+use mathlib.Core.Bool.{Bool}
+use Prim.Native.Nat.{ℕ, zero, suc}
+use lib.Dec.{leb}
+use Rattle.buffer_pool.specs.declared.buffer_pool.BufferPool.{BufferPool}
+use Rattle.buffer_pool.specs.declared.buffer_pool.PoolFront.{PoolFront}
+use Rattle.buffer_pool.specs.declared.buffer_pool.PoolMode.{PoolMode}
+use Rattle.buffer_pool.specs.declared.buffer_pool.PoolMode.the-variants.{Back, Front, Alloc}
+use Rattle.buffer_pool_c.specs.declared.record.Record.{Record}
+
+-- is it the number of a mode?
+abbrev pub known : ℕ → Bool
+known number = leb number 2
+
+-- the mode with this number: 0 the back, 1 the front, 2 the overflow
+abbrev pub modeOf : ℕ → PoolFront → PoolMode
+modeOf zero f = Back
+modeOf (suc zero) f = Front f
+modeOf (suc (suc n)) f = Alloc
+
+abbrev pub modeNumber : PoolMode → ℕ
+modeNumber Back = 0
+modeNumber (Front f) = 1
+modeNumber Alloc = 2
+
+abbrev pub noFront : PoolFront
+noFront = record { «back_start» = 0; «byte_capacity» = 0; len = 0 }
+
+-- the numbers of a front, and in the other modes those that stood there before
+abbrev pub frontOf : PoolMode → PoolFront → PoolFront
+frontOf Back before = before
+frontOf (Front f) before = f
+frontOf Alloc before = before
+
+-- the numbers of a front that a record holds; they are read in the front only
+abbrev pub frontHeld : Record → PoolFront
+frontHeld r = record { «back_start» = r .«front_back_start»; «byte_capacity» = r .«front_byte_capacity»; len = r .«front_len» }
+
+-- the pool's record, with this mode
+abbrev pub poolIn : PoolMode → Record → BufferPool
+poolIn mode r =
+    record {
+      capacity = r .capacity;
+      overflow = r .overflow;
+      live = r .live;
+      starts = r .starts;
+      lengths = r .lengths;
+      serials = r .serials;
+      given = r .given;
+      «back_start» = r .«back_start»;
+      «back_len» = r .«back_len»;
+      used = r .used;
+      «raw_offset» = r .«raw_offset»;
+      «raw_len» = r .«raw_len»;
+      mode = mode;
+      kept = r .kept;
+      cursor = r .cursor;
+      reserved = r .reserved;
+    }
+
+abbrev pub poolOf : Record → BufferPool
+poolOf r = poolIn (modeOf (r .mode) (frontHeld r)) r
+
+-- the record of a pool, with this number of its mode and these numbers of its front
+abbrev pub recordIn : ℕ → PoolFront → BufferPool → Record
+recordIn number front p =
+    record {
+      capacity = p .capacity;
+      overflow = p .overflow;
+      starts = p .starts;
+      lengths = p .lengths;
+      serials = p .serials;
+      given = p .given;
+      live = p .live;
+      mode = number;
+      «back_start» = p .«back_start»;
+      «back_len» = p .«back_len»;
+      used = p .used;
+      «raw_offset» = p .«raw_offset»;
+      «raw_len» = p .«raw_len»;
+      «front_back_start» = front .«back_start»;
+      «front_byte_capacity» = front .«byte_capacity»;
+      «front_len» = front .len;
+      kept = p .kept;
+      cursor = p .cursor;
+      reserved = p .reserved;
+    }
+
+-- the record of a pool, where a front had these numbers before
+abbrev pub recordOf : PoolFront → BufferPool → Record
+recordOf before p = recordIn (modeNumber (p .mode)) (frontOf (p .mode) before) p
+
+-- the record of a pool, where C held r before
+abbrev pub recordAfter : Record → BufferPool → Record
+recordAfter r p = recordOf (frontHeld r) p

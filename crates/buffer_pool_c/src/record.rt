@@ -1,0 +1,153 @@
+// The record as C holds it, and the pool's own record in it.
+ghost use mathlib.Core.Path.{_≡_};
+ghost use Rattle.buffer_pool_c.specs.Record as spec;
+use buffer_pool::buffer_pool::BufferPool;
+use buffer_pool::buffer_pool::PoolFront;
+use buffer_pool::buffer_pool::PoolMode;
+
+// `buffer_pool_record`: the fields of the pool's record, its mode as a number and the front's three numbers beside it.
+#[repr(C)]
+pub struct Record {
+    pub capacity: u64,
+    pub overflow: u64,
+    pub starts: [u32; 8],
+    pub lengths: [u32; 8],
+    pub serials: [u32; 8],
+    pub given: u32,
+    pub live: u8,
+    pub mode: u8,
+    pub back_start: usize,
+    pub back_len: usize,
+    pub used: usize,
+    pub raw_offset: u64,
+    pub raw_len: u64,
+    pub front_back_start: usize,
+    pub front_byte_capacity: u64,
+    pub front_len: usize,
+    pub kept: u64,
+    pub cursor: u64,
+    pub reserved: u64,
+}
+
+// The mode with this number; for a number that is none, the overflow.
+fn mode_of(number: u8, front: PoolFront) -> PoolMode
+    ensures { λ r. ⌜ r ≡ spec.modeOf number front ⌝ }
+{
+    if number == 0 {
+        return PoolMode::Back;
+    }
+    if number == 1 {
+        return PoolMode::Front(front);
+    }
+    PoolMode::Alloc
+}
+
+// The number of a mode.
+fn mode_number(mode: PoolMode) -> u8
+    ensures { λ r. ⌜ r ≡ spec.modeNumber mode ⌝ }
+{
+    match mode {
+        PoolMode::Back => 0,
+        PoolMode::Front(_) => 1,
+        PoolMode::Alloc => 2,
+    }
+}
+
+// No front: all 0.
+pub(crate) fn no_front() -> PoolFront
+    ensures { λ r. ⌜ r ≡ spec.noFront ⌝ }
+{
+    PoolFront {
+        back_start: 0,
+        byte_capacity: 0,
+        len: 0,
+    }
+}
+
+// The numbers of a front that a record holds.
+fn front_held(r: Record) -> PoolFront
+    ensures { λ f. ⌜ f ≡ spec.frontHeld r ⌝ }
+{
+    PoolFront {
+        back_start: r.front_back_start,
+        byte_capacity: r.front_byte_capacity,
+        len: r.front_len,
+    }
+}
+
+// The numbers of a front; in the other modes, those that stood there before.
+fn front_of(mode: PoolMode, before: PoolFront) -> PoolFront
+    ensures { λ r. ⌜ r ≡ spec.frontOf mode before ⌝ }
+{
+    match mode {
+        PoolMode::Back => before,
+        PoolMode::Front(front) => front,
+        PoolMode::Alloc => before,
+    }
+}
+
+// The pool's record.
+pub(crate) fn pool_of(r: Record) -> BufferPool
+    ensures { λ p. ⌜ p ≡ spec.poolOf r ⌝ }
+{
+    let starts = r.starts;
+    let lengths = r.lengths;
+    let serials = r.serials;
+    BufferPool {
+        capacity: r.capacity,
+        overflow: r.overflow,
+        live: r.live,
+        starts: starts,
+        lengths: lengths,
+        serials: serials,
+        given: r.given,
+        back_start: r.back_start,
+        back_len: r.back_len,
+        used: r.used,
+        raw_offset: r.raw_offset,
+        raw_len: r.raw_len,
+        mode: mode_of(r.mode, front_held(r)),
+        kept: r.kept,
+        cursor: r.cursor,
+        reserved: r.reserved,
+    }
+}
+
+// The record that C holds of a pool, with these numbers of a front before.
+pub(crate) fn record_of(before: PoolFront, p: BufferPool) -> Record
+    ensures { λ h. ⌜ h ≡ spec.recordOf before p ⌝ }
+{
+    let starts = p.starts;
+    let lengths = p.lengths;
+    let serials = p.serials;
+    let mode = p.mode;
+    let front = front_of(mode, before);
+    Record {
+        capacity: p.capacity,
+        overflow: p.overflow,
+        starts: starts,
+        lengths: lengths,
+        serials: serials,
+        given: p.given,
+        live: p.live,
+        mode: mode_number(mode),
+        back_start: p.back_start,
+        back_len: p.back_len,
+        used: p.used,
+        raw_offset: p.raw_offset,
+        raw_len: p.raw_len,
+        front_back_start: front.back_start,
+        front_byte_capacity: front.byte_capacity,
+        front_len: front.len,
+        kept: p.kept,
+        cursor: p.cursor,
+        reserved: p.reserved,
+    }
+}
+
+// The record that C holds of a pool, where it held `r` before.
+pub(crate) fn record_after(r: Record, p: BufferPool) -> Record
+    ensures { λ h. ⌜ h ≡ spec.recordAfter r p ⌝ }
+{
+    record_of(front_held(r), p)
+}
