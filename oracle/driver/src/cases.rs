@@ -166,3 +166,20 @@ fn generated_lists_reach_known_classes_only() {
     }
     assert_eq!(tally.unknown(), 0);
 }
+
+/// A copy made by doing everything again shows what the pool shows, and answers as it does.
+#[test]
+fn a_pool_made_again_is_the_same() {
+    let options = generate::Options { seed: 5, count: 40, capacity: 40, events: 60, cover: 0 };
+    for list in generate::lists(&options) {
+        let mut judge = Judge::new(list.capacity, list.overflow);
+        for event in &list.events {
+            let mut again = judge.again();
+            assert_eq!(again.apply(event), judge.apply(event));
+            assert_eq!(again.situation().record, judge.situation().record);
+            assert_eq!((again.frame(), again.reservation()), (judge.frame(), judge.reservation()));
+            assert_eq!(again.pool_bytes(), judge.pool_bytes());
+            assert!(again.slices().eq(judge.slices()));
+        }
+    }
+}

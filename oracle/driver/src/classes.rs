@@ -161,7 +161,7 @@ impl Tally {
 
     /// Runs a list and counts what it reaches.
     pub fn add_list(&mut self, list: &List) {
-        self.add(&memories(list));
+        self.add(&memories(list.capacity, list.overflow));
         run(list, |_, names| self.add(names));
     }
 
@@ -192,7 +192,8 @@ impl Tally {
         spared
     }
 
-    fn add(&mut self, names: &[String]) {
+    /// Counts classes.
+    pub fn add(&mut self, names: &[String]) {
         for name in names {
             match position(name) {
                 Some(at) => self.counts[at] += 1,
@@ -241,8 +242,8 @@ fn run(list: &List, mut each: impl FnMut(usize, &[String])) {
     }
 }
 
-fn memories(list: &List) -> Vec<String> {
-    let (capacity, overflow) = (list.capacity, list.overflow);
+/// The classes of two memories of these lengths.
+pub fn memories(capacity: u32, overflow: u32) -> Vec<String> {
     let all = [
         (capacity == 0, "pool of 0 bytes"),
         (capacity == 1, "pool of 1 byte"),
@@ -261,7 +262,7 @@ fn holding(all: &[(bool, &str)]) -> Vec<String> {
 }
 
 /// The classes of one event.
-fn classes(before: &Situation, event: &Event, answer: &Answer, judge: &Judge) -> Vec<String> {
+pub fn classes(before: &Situation, event: &Event, answer: &Answer, judge: &Judge) -> Vec<String> {
     match *event {
         Event::Reserve(len) if answer.refusal == 0 => reserve(before, len, answer, judge),
         Event::Reserve(len) => refused_reserve(before, len),

@@ -48,19 +48,23 @@ fn cover(all: impl Iterator<Item = List>, times: u64) -> Vec<List> {
 
 /// Makes one list, doing each event to a real pool as it is chosen.
 fn list(random: &mut Random, options: &Options) -> List {
-    let capacity = capacity(random, options.capacity);
-    let overflow = overflow(random, capacity);
+    let (capacity, overflow) = lengths(random, options.capacity);
     let count = random.within(1, options.events);
-    let mut author = Author {
-        judge: Judge::new(capacity, overflow),
-        order: Order::First,
-        small: random.within(1, u64::from(capacity / SLOTS as u32).max(1)),
-        filling: random.chance(FILLS),
-        run: 0,
-        random,
+    let mut judge = Judge::new(capacity, overflow);
+    let mut author = Author::new(random, capacity);
+    let mut next = || {
+        let event = author.choose(&judge);
+        judge.apply(&event);
+        event
     };
-    let events = (0..count).map(|_| author.next()).collect();
+    let events = (0..count).map(|_| next()).collect();
     List { capacity, overflow, events }
+}
+
+/// The lengths of a pool memory of at most this many bytes and of an overflow for it.
+pub fn lengths(random: &mut Random, most: u32) -> (u32, u32) {
+    let capacity = capacity(random, most);
+    (capacity, overflow(random, capacity))
 }
 
 /// Mostly room for a slice in each slot.
@@ -108,9 +112,8 @@ enum Act {
 }
 
 /// One who writes a list while the pool runs it.
-struct Author<'a> {
+pub struct Author<'a> {
     random: &'a mut Random,
-    judge: Judge,
     /// The order in which slices are released, chosen anew for each run of releases.
     order: Order,
     /// The longest of the small reservations: eight of them fit in the pool.
@@ -121,26 +124,35 @@ struct Author<'a> {
     run: u64,
 }
 
-impl Author<'_> {
-    /// Chooses an event and does it.
-    fn next(&mut self) -> Event {
-        let at = self.judge.situation();
+impl<'a> Author<'a> {
+    /// One who writes for a pool of this capacity.
+    pub fn new(random: &'a mut Random, capacity: u32) -> Author<'a> {
+        Author {
+            order: Order::First,
+            small: random.within(1, u64::from(capacity / SLOTS as u32).max(1)),
+            filling: random.chance(FILLS),
+            run: 0,
+            random,
+        }
+    }
+
+    /// Chooses the next event for the pool as it stands.
+    pub fn choose(&mut self, judge: &Judge) -> Event {
+        let at = judge.situation();
         self.plan(&at);
-        let event = match self.act(&at) {
+        match self.act(&at) {
             Act::Reserve => Event::Reserve(self.reserve_len(&at)),
             Act::Commit => Event::Commit(self.commit_len(&at)),
             Act::Take => Event::Take(self.destination(&at)),
             Act::Truncate => Event::Truncate(self.truncate_len(&at)),
-            Act::Release => Event::Release(self.release_serial(&at)),
+            Act::Release => Event::Release(self.release_serial(&at, judge)),
             Act::WriteReservation => self.write(View::Reservation, at.reserved),
             Act::WriteFrame => self.write(View::Frame, at.frame_len),
             Act::WriteSlice => {
-                let serial = self.any_serial();
+                let serial = self.any_serial(judge);
                 self.write(View::Slice(serial), at.capacity / SLOTS)
             }
-        };
-        self.judge.apply(&event);
-        event
+        }
     }
 
     /// Starts to fill when the pool is empty again, and ends when all slots are used or the pool
@@ -291,10 +303,10 @@ impl Author<'_> {
 
     /// Mostly a live serial, in the order of the run, and often the start of a run.
     /// In the front it is often the slice before the frame, or the last of the back.
-    fn release_serial(&mut self, at: &Situation) -> u32 {
-        let live = self.judge.live_serials();
+    fn release_serial(&mut self, at: &Situation, judge: &Judge) -> u32 {
+        let live = judge.live_serials();
         if live.is_empty() || self.random.chance(6) {
-            return self.any_serial();
+            return self.any_serial(judge);
         }
         if let (0, Mode::Front { used, .. }) = (self.run, at.record.mode) {
             let front = (1..=used).filter(|&p| at.record.is_live(p)).count();
@@ -318,12 +330,12 @@ impl Author<'_> {
     }
 
     /// A serial that may be live, released, or not given yet; rarely 0 or the last there is.
-    fn any_serial(&mut self) -> u32 {
-        let live = self.judge.live_serials();
+    fn any_serial(&mut self, judge: &Judge) -> u32 {
+        let live = judge.live_serials();
         if !live.is_empty() && self.random.chance(70) {
             return self.random.pick(&live);
         }
-        let given = self.random.within(0, u64::from(self.judge.serials()) + 1) as u32;
+        let given = self.random.within(0, u64::from(judge.serials()) + 1) as u32;
         self.random.weighed(&[(9, given), (1, u32::MAX)])
     }
 

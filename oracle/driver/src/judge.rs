@@ -65,7 +65,7 @@ pub struct Judge {
     held: [Option<Held>; SLOTS],
     /// Serials given.
     serials: u32,
-    /// Every call that was not refused: what a twin replays.
+    /// Every call that was not refused and every write that reached its view: what a twin replays.
     accepted: Vec<Event>,
     record: Record,
 }
@@ -90,7 +90,7 @@ impl Judge {
         }
     }
 
-    /// Does one event and gives its answer.
+    /// Does one event and gives its answer. A write changes no number, so none is read after it.
     pub fn apply(&mut self, event: &Event) -> Answer {
         let answer = match *event {
             Event::Reserve(len) => self.reserve(len),
@@ -100,11 +100,13 @@ impl Judge {
             Event::Release(serial) => self.release(serial),
             Event::Write { view, index, value } => self.write(view, index, value),
         };
-        if answer.refusal == 0 && event.letter() != 'w' {
+        if answer.refusal == 0 && !past_end(event, &answer) {
             self.accepted.push(*event);
         }
-        self.record = Record::read(&self.pool);
-        self.cross_check();
+        if event.letter() != 'w' {
+            self.record = Record::read(&self.pool);
+            self.cross_check();
+        }
         answer
     }
 
@@ -193,7 +195,8 @@ impl Judge {
         Answer::place(place)
     }
 
-    fn view_place(&self, view: View) -> (usize, usize) {
+    /// Start and length of a view; `0 0` for a serial that is not live.
+    pub fn view_place(&self, view: View) -> (usize, usize) {
         match view {
             View::Reservation => (self.frame_end(), self.reserved),
             View::Frame => self.frame_place(),
@@ -286,6 +289,40 @@ impl Judge {
         let live = |(p, held)| Option::as_ref(held).map(|held: &Held| (p, held.slice.as_ref()));
         (1..=SLOTS).zip(&self.held).filter_map(live)
     }
+
+    /// Serial, start and length of the live slice in slot `p`, of 1 to 8.
+    pub fn slice_place(&self, p: usize) -> Option<(u32, usize, usize)> {
+        let held = self.held[p - 1].as_ref()?;
+        Some((held.serial, held.start, held.slice.len()))
+    }
+
+    /// Every byte of the pool memory.
+    pub fn pool_bytes(&self) -> &[u8] {
+        unsafe { std::slice::from_raw_parts(self.base, self.capacity) }
+    }
+
+    /// Another pool that has had the same calls and writes.
+    pub fn again(&self) -> Judge {
+        let mut twin = replay(self.capacity, &self.accepted);
+        let mut held = |held: &Option<Held>| {
+            let Held { serial, start, .. } = *held.as_ref()?;
+            let slice = twin.slices[serial as usize - 1].take().expect("a live slice");
+            Some(Held { serial, slice, start })
+        };
+        Judge {
+            held: std::array::from_fn(|at| held(&self.held[at])),
+            base: twin.base,
+            offer: twin.offer,
+            pool: twin.pool,
+            accepted: self.accepted.clone(),
+            ..*self
+        }
+    }
+}
+
+/// Whether the event is a write that its view does not reach.
+fn past_end(event: &Event, answer: &Answer) -> bool {
+    matches!(event, Event::Write { index, .. } if *index >= answer.len as u64)
 }
 
 impl Held {
@@ -294,23 +331,29 @@ impl Held {
     }
 }
 
-/// A pool that has had the same calls, and the slices that it gave.
+/// A pool that has had the same calls and writes, and the slices that it gave.
 struct Twin {
     pool: Pool,
+    /// Where the pool memory starts, and the range last offered.
+    base: *const u8,
+    offer: *mut u8,
+    /// By serial.
     slices: Vec<Option<Slice>>,
 }
 
-/// Does accepted calls again on a new pool. Bytes decide nothing, so none are written.
+/// Does accepted calls and writes again on a new pool.
 fn replay(capacity: usize, accepted: &[Event]) -> Twin {
-    let mut twin = Twin { pool: Pool::new(capacity), slices: Vec::new() };
+    let mut pool = Pool::new(capacity);
+    let offer = pool.reserve(0).as_mut_ptr();
+    let mut twin = Twin { pool, base: offer, offer, slices: Vec::new() };
     for event in accepted {
         match *event {
-            Event::Reserve(len) => drop(twin.pool.reserve(len as usize)),
+            Event::Reserve(len) => twin.offer = twin.pool.reserve(len as usize).as_mut_ptr(),
             Event::Commit(len) => twin.pool.commit(len as usize),
             Event::Take(_) => twin.take(),
             Event::Truncate(len) => twin.pool.truncate(usize::try_from(len).unwrap_or(usize::MAX)),
             Event::Release(serial) => twin.slices[serial as usize - 1] = None,
-            Event::Write { .. } => {}
+            Event::Write { view, index, value } => twin.write(view, index as usize, value),
         }
     }
     twin
@@ -323,6 +366,18 @@ impl Twin {
         let slice = self.pool.get_data_owned();
         if pooled {
             self.slices.push(Some(slice));
+        }
+    }
+
+    /// Writes a byte that lies inside the view.
+    fn write(&mut self, view: View, index: usize, value: u8) {
+        match view {
+            View::Reservation => unsafe { *self.offer.add(index) = value },
+            View::Frame => self.pool.frame_mut()[index] = value,
+            View::Slice(serial) => {
+                let slice = self.slices[serial as usize - 1].as_mut().expect("a live slice");
+                slice.as_mut()[index] = value;
+            }
         }
     }
 }

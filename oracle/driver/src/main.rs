@@ -1,20 +1,7 @@
-//! The driver of the Rust pool: runs lists of calls and view writes on it and prints what it
-//! answers. README.md says how it is used.
+//! The program `oracle`: the commands over the driver. README.md says how they are used.
 
-mod answers;
-mod calls;
-#[cfg(test)]
-mod cases;
-mod changes;
-mod classes;
-mod generate;
-mod judge;
-mod random;
-mod record;
-mod text;
-mod trace;
-
-use answers::Form;
+use oracle::answers::{self, Form};
+use oracle::{calls, classes, generate, text, trace};
 use std::fs;
 use std::io::{self, BufWriter, Read, Write};
 use std::process::ExitCode;

@@ -45,6 +45,8 @@ pub struct Record {
     pub frame_len: usize,
     /// Start and length of each slot's slice, live or not.
     pub slots: [(usize, usize); SLOTS],
+    /// Slots used.
+    pub used: usize,
 }
 
 /// `Debug` text, collected until a word comes: bytes of the heap would be printed one by one.
@@ -96,9 +98,9 @@ impl Record {
         let _capacity = next();
         let (frame_start, frame_len) = (next(), next());
         let slots = std::array::from_fn(|_| (next(), next()));
-        let _used = next();
+        let used = next();
         assert!(numbers.next().is_none(), "no other number");
-        Record { mode, live, back_start, back_count, frame_start, frame_len, slots }
+        Record { mode, live, back_start, back_count, frame_start, frame_len, slots, used }
     }
 
     /// Whether slot `p`, of 1 to 8, is live.
@@ -152,7 +154,7 @@ mod tests {
         assert_eq!(record.mode, Mode::Front { slots: 2, bytes: 4, used: 0 });
         assert_eq!((record.live, record.back_start, record.back_count), (0x3f, 2, 6));
         assert_eq!((record.frame_start, record.frame_len), (0, 3));
-        assert_eq!(record.slots[7], (14, 2));
+        assert_eq!((record.slots[7], record.used), ((14, 2), 0));
     }
 
     #[test]

@@ -7,10 +7,10 @@ use crate::judge::Judge;
 use crate::random::Random;
 
 /// The longest file, the longest memory, and the bytes of header and event.
-const FILE_LIMIT: usize = 65_536;
+pub const FILE_LIMIT: usize = 65_536;
 const MEMORY_LIMIT: u32 = 16_384;
-const HEADER: usize = 24;
-const EVENT: usize = 8;
+pub const HEADER: usize = 24;
+pub const EVENT: usize = 8;
 
 /// The trace with the list's sizes and calls, and these bytes. Writes have no place in a trace.
 pub fn encode(list: &List, bytes: &[u8]) -> Vec<u8> {
@@ -40,13 +40,13 @@ fn event_bytes(event: &Event) -> Option<[u8; EVENT]> {
 
 /// Why a file is refused: 9, or 10 with the event counted from 1.
 #[derive(Debug, PartialEq)]
-enum Refusal {
+pub enum Refusal {
     File,
     Event(usize),
 }
 
 /// The list and the bytes of a trace. 9 comes before 10.
-fn decode(file: &[u8]) -> Result<(List, &[u8]), Refusal> {
+pub fn decode(file: &[u8]) -> Result<(List, &[u8]), Refusal> {
     if file.len() < HEADER || file.len() > FILE_LIMIT {
         return Err(Refusal::File);
     }

@@ -1,0 +1,51 @@
+-- Rounds of four calls on one pool: the definitions of the crate buffer_pool, one after the other.
+use mathlib.Core.List.{List, []}
+use Prim.Native.Nat.{ℕ, zero, suc}
+use Rattle.buffer_pool.specs.declared.slice.Handle.{Handle}
+use Rattle.buffer_pool.specs.declared.buffer_pool.BufferPool.{BufferPool}
+use Rattle.buffer_pool.specs.declared.buffer_pool.Answer.{Answer}
+use Rattle.buffer_pool.specs.declared.buffer_pool.Answer.the-variants.{Done, Reserved, Framed, Taken, Copied, Refused}
+use Rattle.buffer_pool.specs.Record.{slotCount}
+use Rattle.buffer_pool.specs.Moves.{Memories}
+use Rattle.buffer_pool.specs.Calls.{Outcome, new, reserve, commit, take, release}
+
+-- a pool: its record, its memories, and the destination of its takes
+pub record State : Type 0 where
+  pub held : BufferPool
+  pub memory : Memories
+  pub destination : List ℕ
+
+abbrev pub state : BufferPool → Memories → List ℕ → State
+state held memory destination = record { held = held; memory = memory; destination = destination }
+
+abbrev pub noHandle : Handle
+noHandle = record { slot = 0; start = 0; length = 0; serial = 0 }
+
+-- the handle that a take gave
+abbrev pub taken : Answer → Handle
+taken Done = noHandle
+taken (Reserved p changes) = noHandle
+taken (Framed p) = noHandle
+taken (Taken h) = h
+taken (Copied n) = noHandle
+taken (Refused number) = noHandle
+
+-- reserve and commit len bytes
+unfoldable pub gathered : ℕ → State → State
+gathered len s =
+    let a : Outcome = reserve slotCount (s .held) (s .memory) len in
+    state (commit slotCount (a .call .pool) (a .memory) len .call .pool) (a .memory) (s .destination)
+
+-- take the frame and release the slice
+unfoldable pub finished : State → State
+finished s =
+    let a : Outcome = take slotCount (s .held) (s .memory) (s .destination) in
+    state (release slotCount (a .call .pool) (a .memory) (taken (a .call .answer)) .call .pool) (a .memory) (a .destination)
+
+unfoldable pub rounds : ℕ → ℕ → State → State
+rounds len zero s = s
+rounds len (suc n) s = rounds len n (finished (gathered len s))
+
+-- a new pool
+unfoldable pub started : Memories → List ℕ → State
+started m destination = state (new slotCount m .call .pool) (new slotCount m .memory) destination

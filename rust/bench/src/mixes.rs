@@ -1,0 +1,254 @@
+//! The mixes of calls that are timed.
+
+use crate::sides::{Kept, Side, NOT_KEPT};
+use oracle::calls::{Event, List};
+use oracle::generate::Author;
+use oracle::judge::Judge;
+use oracle::random::Random;
+use oracle::record::SLOTS;
+use oracle::trace;
+use std::collections::VecDeque;
+
+/// The kinds of call, in the order of the tables.
+pub const KINDS: [&str; 5] = ["reserve", "commit", "truncate", "take", "release"];
+
+/// One call that is not refused.
+#[derive(Clone, Copy)]
+pub enum Step {
+    Reserve(usize),
+    Commit(usize),
+    Truncate(usize),
+    Take(Kept),
+    Release(Kept),
+}
+
+impl Step {
+    /// The index of the step's kind.
+    pub fn kind(&self) -> usize {
+        match self {
+            Step::Reserve(_) => 0,
+            Step::Commit(_) => 1,
+            Step::Truncate(_) => 2,
+            Step::Take(_) => 3,
+            Step::Release(_) => 4,
+        }
+    }
+
+    pub fn run<S: Side>(&self, side: &mut S) {
+        match *self {
+            Step::Reserve(len) => side.reserve(len),
+            Step::Commit(n) => side.commit(n),
+            Step::Truncate(n) => side.truncate(n),
+            Step::Take(kept) => side.take(kept),
+            Step::Release(kept) => side.release(kept),
+        }
+    }
+}
+
+/// A name, the lengths of the memories, and the calls.
+pub struct Mix {
+    pub name: &'static str,
+    pub capacity: usize,
+    pub overflow: usize,
+    pub steps: Vec<Step>,
+    /// How many of the reserves end in B, F and A.
+    pub modes: [usize; 3],
+}
+
+/// One who writes a mix while the Rust runs it.
+struct Draft {
+    mix: Mix,
+    judge: Judge,
+    /// The serial kept in each place.
+    kept: [Option<u32>; SLOTS],
+}
+
+impl Draft {
+    fn new(name: &'static str, capacity: usize, overflow: usize) -> Draft {
+        Draft {
+            mix: Mix { name, capacity, overflow, steps: Vec::new(), modes: [0; 3] },
+            judge: Judge::new(capacity as u32, overflow as u32),
+            kept: [None; SLOTS],
+        }
+    }
+
+    /// Adds an event, unless the Rust's judge refuses it.
+    fn add(&mut self, event: Event) {
+        let serials = self.judge.serials();
+        if self.judge.apply(&event).refusal != 0 {
+            return;
+        }
+        let step = match event {
+            Event::Reserve(len) => {
+                let mode = self.judge.situation().record.mode.letter();
+                self.mix.modes["BFA".find(mode).expect("a mode")] += 1;
+                Step::Reserve(len as usize)
+            }
+            Event::Commit(n) => Step::Commit(n as usize),
+            Event::Truncate(n) => Step::Truncate(n as usize),
+            Event::Take(_) if self.judge.serials() == serials => Step::Take(NOT_KEPT),
+            Event::Take(_) => {
+                let free = self.kept.iter().position(Option::is_none).expect("eight slots");
+                self.kept[free] = Some(serials + 1);
+                Step::Take(free)
+            }
+            Event::Release(serial) => {
+                let at = self.kept.iter().position(|&kept| kept == Some(serial));
+                let at = at.expect("a live serial");
+                self.kept[at] = None;
+                Step::Release(at)
+            }
+            Event::Write { .. } => return,
+        };
+        self.mix.steps.push(step);
+    }
+
+    /// Reserves and commits.
+    fn gather(&mut self, len: usize) {
+        self.add(Event::Reserve(len as u64));
+        self.add(Event::Commit(len as u64));
+    }
+
+    /// Reserves, commits and takes.
+    fn entry(&mut self, len: usize) {
+        self.gather(len);
+        self.add(Event::Take(self.mix.overflow as u64));
+    }
+
+    /// Releases the live slices of some slots.
+    fn release(&mut self, slots: std::ops::RangeInclusive<usize>) {
+        for p in slots {
+            if let Some((serial, ..)) = self.judge.slice_place(p) {
+                self.add(Event::Release(serial));
+            }
+        }
+    }
+}
+
+/// The length of a small entry.
+const ENTRY: usize = 32;
+
+/// Reserve, commit, take, release in turn.
+fn back_only() -> Mix {
+    let mut draft = Draft::new("back only", 1024, 1024);
+    for _ in 0..2000 {
+        draft.entry(ENTRY);
+        draft.release(1..=8);
+    }
+    draft.mix
+}
+
+/// The same, with a truncate of each frame.
+fn back_truncated() -> Mix {
+    let mut draft = Draft::new("back only, truncated", 1024, 1024);
+    for _ in 0..2000 {
+        draft.gather(ENTRY);
+        draft.add(Event::Truncate(ENTRY as u64 / 2));
+        draft.add(Event::Take(0));
+        draft.release(1..=8);
+    }
+    draft.mix
+}
+
+/// The last eight entries are kept, and the oldest goes before the next comes. Those that were copied
+/// out of the overflow are kept elsewhere.
+fn ring_of_eight() -> Mix {
+    let mut draft = Draft::new("ring of eight held slices", 1024, 1024);
+    let mut ring = VecDeque::new();
+    for _ in 0..2000 {
+        if ring.len() == SLOTS {
+            if let Some(oldest) = ring.pop_front().flatten() {
+                draft.add(Event::Release(oldest));
+            }
+        }
+        let serials = draft.judge.serials();
+        draft.entry(ENTRY);
+        let pooled = draft.judge.serials() > serials;
+        ring.push_back(pooled.then_some(serials + 1));
+    }
+    draft.mix
+}
+
+/// Four entries in the front, four in the back, by turns.
+fn front_and_back() -> Mix {
+    let mut draft = Draft::new("front and back alternating", 1024, 1024);
+    (0..8).for_each(|_| draft.entry(ENTRY));
+    for _ in 0..300 {
+        draft.release(1..=4);
+        (0..4).for_each(|_| draft.entry(ENTRY));
+        draft.release(5..=8);
+        (0..4).for_each(|_| draft.entry(ENTRY));
+    }
+    draft.mix
+}
+
+/// All slots held, so that every entry goes to the overflow and is copied out of it.
+fn overflow() -> Mix {
+    let mut draft = Draft::new("overflow", 1024, 1024);
+    (0..8).for_each(|_| draft.entry(ENTRY));
+    for _ in 0..2000 {
+        draft.entry(ENTRY);
+    }
+    draft.mix
+}
+
+/// Frames of 12 to 24 KiB that are moved from the front to the back, by a reset, and to the overflow.
+fn large_frames() -> Mix {
+    const K: usize = 1024;
+    let mut draft = Draft::new("large frames that move", 128 * K, 128 * K);
+    for _ in 0..60 {
+        (0..8).for_each(|_| draft.entry(8 * K));
+        draft.release(1..=2);
+        draft.gather(12 * K);
+        draft.release(7..=8);
+        draft.entry(8 * K);
+        draft.gather(24 * K);
+        draft.release(1..=8);
+        draft.entry(8 * K);
+        draft.gather(24 * K);
+        draft.entry(100 * K);
+        draft.release(1..=8);
+    }
+    draft.mix
+}
+
+/// A trace of the longest file, written by the oracle's author for a pool with these lengths.
+fn longest_trace(capacity: u32, overflow: u32) -> Vec<u8> {
+    let events = (trace::FILE_LIMIT - trace::HEADER) / trace::EVENT;
+    let mut list = List { capacity, overflow, events: Vec::new() };
+    let mut judge = Judge::new(capacity, overflow);
+    let mut random = Random::new(1);
+    let mut author = Author::new(&mut random, capacity);
+    while list.events.len() < events {
+        let event = author.choose(&judge);
+        judge.apply(&event);
+        if !matches!(event, Event::Write { .. }) {
+            list.events.push(event);
+        }
+    }
+    trace::encode(&list, &[])
+}
+
+/// The calls of a trace of the longest file, but for those that are refused.
+fn replayed(name: &'static str, capacity: u32, overflow: u32) -> Mix {
+    let file = longest_trace(capacity, overflow);
+    assert_eq!(file.len(), trace::FILE_LIMIT, "a trace of full size");
+    let (list, _) = trace::decode(&file).expect("a good trace");
+    let mut draft = Draft::new(name, capacity as usize, overflow as usize);
+    list.events.into_iter().for_each(|event| draft.add(event));
+    draft.mix
+}
+
+/// All mixes.
+pub fn mixes() -> Vec<Mix> {
+    vec![
+        back_only(),
+        back_truncated(),
+        ring_of_eight(),
+        front_and_back(),
+        overflow(),
+        large_frames(),
+        replayed("trace of 65,536 bytes, pool of 40", 40, 60),
+        replayed("trace of 65,536 bytes, pool of 16,384", 16_384, 16_384),
+    ]
+}

@@ -1,0 +1,201 @@
+//! The two sides that are timed, with the same calls.
+
+use buffer_pool::raw::{self, Handle, Record, SLOTS};
+use buffer_sv2::{Buffer, BufferFromSystemMemory, BufferPool, Slice};
+
+/// Where a taken slice is kept until its release: one place a slot.
+pub type Kept = usize;
+
+/// The place of a take that gives no slice.
+pub const NOT_KEPT: Kept = SLOTS;
+
+/// A pool that is driven. No call that is timed is refused.
+pub trait Side {
+    fn new(capacity: usize, overflow: usize) -> Self;
+    /// Reserves, and writes the reservation's first byte.
+    fn reserve(&mut self, len: usize);
+    fn commit(&mut self, n: usize);
+    fn truncate(&mut self, n: usize);
+    fn take(&mut self, kept: Kept);
+    fn release(&mut self, kept: Kept);
+    /// Looks at the frame.
+    fn frame(&mut self) -> usize;
+    /// Whether a call was refused.
+    fn refused(&self) -> bool;
+}
+
+/// The Rust as published.
+pub struct Rust {
+    pool: BufferPool<BufferFromSystemMemory>,
+    kept: [Option<Slice>; SLOTS],
+}
+
+impl Side for Rust {
+    fn new(capacity: usize, _: usize) -> Rust {
+        Rust { pool: BufferPool::new(capacity), kept: Default::default() }
+    }
+
+    fn reserve(&mut self, len: usize) {
+        if let Some(first) = self.pool.reserve(len).first_mut() {
+            *first = 1;
+        }
+    }
+
+    fn commit(&mut self, n: usize) {
+        self.pool.commit(n);
+    }
+
+    fn truncate(&mut self, n: usize) {
+        self.pool.truncate(n);
+    }
+
+    fn take(&mut self, kept: Kept) {
+        let slice = self.pool.get_data_owned();
+        if kept != NOT_KEPT {
+            self.kept[kept] = Some(slice);
+        }
+    }
+
+    fn release(&mut self, kept: Kept) {
+        self.kept[kept] = None;
+    }
+
+    fn frame(&mut self) -> usize {
+        self.pool.frame().len()
+    }
+
+    fn refused(&self) -> bool {
+        false
+    }
+}
+
+/// The port, across the C interface.
+pub struct Port {
+    record: Record,
+    pool: Box<[u8]>,
+    overflow: Box<[u8]>,
+    destination: Box<[u8]>,
+    kept: [Handle; SLOTS],
+    /// All refusals, joined.
+    refusals: u8,
+}
+
+// SAFETY, for each call below: record, memories and destination are the pool's own, lie apart, and
+// the lengths are theirs.
+impl Side for Port {
+    fn new(capacity: usize, overflow: usize) -> Port {
+        let memory = |len: usize| vec![0; len].into_boxed_slice();
+        let (mut pool, lent) = (memory(capacity), memory(overflow));
+        let created =
+            unsafe { raw::buffer_pool_new(pool.as_mut_ptr(), capacity, lent.as_ptr(), overflow) };
+        Port {
+            record: created.record,
+            pool,
+            overflow: lent,
+            destination: memory(overflow),
+            kept: Default::default(),
+            refusals: created.refusal,
+        }
+    }
+
+    fn reserve(&mut self, len: usize) {
+        let (pool, overflow) = (&mut self.pool, &mut self.overflow);
+        let reserved = unsafe {
+            raw::buffer_pool_reserve(
+                &mut self.record,
+                pool.as_mut_ptr(),
+                pool.len(),
+                overflow.as_mut_ptr(),
+                overflow.len(),
+                len as u64,
+            )
+        };
+        self.refusals |= reserved.refusal;
+        let memory = if reserved.place.memory == raw::POOL_MEMORY { pool } else { overflow };
+        if reserved.place.length > 0 {
+            memory[reserved.place.start as usize] = 1;
+        }
+    }
+
+    fn commit(&mut self, n: usize) {
+        let (pool, overflow) = (&self.pool, &self.overflow);
+        let placed = unsafe {
+            raw::buffer_pool_commit(
+                &mut self.record,
+                pool.as_ptr(),
+                pool.len(),
+                overflow.as_ptr(),
+                overflow.len(),
+                n as u64,
+            )
+        };
+        self.refusals |= placed.refusal;
+    }
+
+    fn truncate(&mut self, n: usize) {
+        let (pool, overflow) = (&self.pool, &self.overflow);
+        let placed = unsafe {
+            raw::buffer_pool_truncate(
+                &mut self.record,
+                pool.as_ptr(),
+                pool.len(),
+                overflow.as_ptr(),
+                overflow.len(),
+                n as u64,
+            )
+        };
+        self.refusals |= placed.refusal;
+    }
+
+    fn take(&mut self, kept: Kept) {
+        let (pool, overflow) = (&self.pool, &mut self.overflow);
+        let taken = unsafe {
+            raw::buffer_pool_take(
+                &mut self.record,
+                pool.as_ptr(),
+                pool.len(),
+                overflow.as_mut_ptr(),
+                overflow.len(),
+                self.destination.as_mut_ptr(),
+                self.destination.len(),
+            )
+        };
+        self.refusals |= taken.refusal;
+        if kept != NOT_KEPT {
+            self.kept[kept] = taken.handle;
+        }
+    }
+
+    fn release(&mut self, kept: Kept) {
+        let (pool, overflow) = (&self.pool, &self.overflow);
+        self.refusals |= unsafe {
+            raw::buffer_pool_release(
+                &mut self.record,
+                pool.as_ptr(),
+                pool.len(),
+                overflow.as_ptr(),
+                overflow.len(),
+                self.kept[kept],
+            )
+        };
+    }
+
+    fn frame(&mut self) -> usize {
+        let (pool, overflow) = (&self.pool, &self.overflow);
+        let placed = unsafe {
+            raw::buffer_pool_frame(
+                &self.record,
+                pool.as_ptr(),
+                pool.len(),
+                overflow.as_ptr(),
+                overflow.len(),
+            )
+        };
+        self.refusals |= placed.refusal;
+        placed.place.length as usize
+    }
+
+    fn refused(&self) -> bool {
+        self.refusals != 0
+    }
+}

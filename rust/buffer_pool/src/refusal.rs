@@ -1,0 +1,78 @@
+//! The numbered refusals.
+
+use core::fmt;
+
+/// Why a call was turned away. A refused call changes nothing. The numbers are document 01's.
+#[derive(Clone, Copy, Debug, PartialEq, Eq)]
+#[repr(u8)]
+pub enum Refusal {
+    /// The record fails the soundness test. A [`Pool`](crate::Pool) owns its record, so it does not
+    /// meet this.
+    Unsound = 1,
+    /// A lent memory's length is not the record's. A [`Pool`](crate::Pool) keeps both memories, so
+    /// it does not meet this.
+    WrongLength = 2,
+    /// New: a memory has more than 1,048,576 bytes.
+    MemoryTooLong = 3,
+    /// Reserve: the overflow would be used, and is too short for frame and reservation.
+    OverflowTooShort = 4,
+    /// Commit: more bytes than the reservation has.
+    CommitTooLong = 5,
+    /// Take: the frame lies in the overflow and is longer than the destination.
+    DestinationTooShort = 6,
+    /// Release or view: the handle names no live slice of this pool.
+    NotLive = 7,
+    /// Take: all 4,294,967,295 serials were given.
+    NoSerials = 8,
+}
+
+impl Refusal {
+    /// Document 01's number.
+    pub const fn number(self) -> u8 {
+        self as u8
+    }
+
+    /// The refusal with this number, if there is one.
+    pub const fn from_number(number: u8) -> Option<Refusal> {
+        Some(match number {
+            1 => Refusal::Unsound,
+            2 => Refusal::WrongLength,
+            3 => Refusal::MemoryTooLong,
+            4 => Refusal::OverflowTooShort,
+            5 => Refusal::CommitTooLong,
+            6 => Refusal::DestinationTooShort,
+            7 => Refusal::NotLive,
+            8 => Refusal::NoSerials,
+            _ => return None,
+        })
+    }
+
+    /// `Ok` for 0, which says that a call was done. The calls give no number above 8.
+    pub(crate) fn check(number: u8) -> Result<(), Refusal> {
+        match Refusal::from_number(number) {
+            Some(refusal) => Err(refusal),
+            None => {
+                debug_assert_eq!(number, 0);
+                Ok(())
+            }
+        }
+    }
+}
+
+impl fmt::Display for Refusal {
+    fn fmt(&self, f: &mut fmt::Formatter<'_>) -> fmt::Result {
+        let cause = match self {
+            Refusal::Unsound => "the record fails the soundness test",
+            Refusal::WrongLength => "a lent memory's length is not the record's",
+            Refusal::MemoryTooLong => "a memory has more than 1,048,576 bytes",
+            Refusal::OverflowTooShort => "the overflow is too short for frame and reservation",
+            Refusal::CommitTooLong => "the commit exceeds the reservation",
+            Refusal::DestinationTooShort => "the frame is longer than the destination",
+            Refusal::NotLive => "the handle names no live slice of this pool",
+            Refusal::NoSerials => "all serials were given",
+        };
+        write!(f, "refusal {}: {cause}", self.number())
+    }
+}
+
+impl core::error::Error for Refusal {}

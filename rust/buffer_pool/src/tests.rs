@@ -1,0 +1,117 @@
+//! The wrapper, on the linked archive. Expected values are document 01's.
+
+use crate::{raw, Mode, Pool, Refusal, Slice, Taken};
+use std::string::ToString;
+use std::vec::Vec;
+
+/// Reserves, writes, commits and takes one entry.
+fn entry<'m>(pool: &mut Pool<'m>, bytes: &[u8]) -> Taken<'m> {
+    pool.reserve(bytes.len()).unwrap().bytes.copy_from_slice(bytes);
+    pool.commit(bytes.len()).unwrap();
+    pool.take(&mut [0; 32]).unwrap()
+}
+
+/// The same, for an entry that stays in the pool.
+fn pooled<'m>(pool: &mut Pool<'m>, bytes: &[u8]) -> Slice<'m> {
+    match entry(pool, bytes) {
+        Taken::Slice(slice) => slice,
+        Taken::Copied(_) => panic!("the pool has room"),
+    }
+}
+
+#[test]
+fn an_entry_is_written_taken_read_and_released() {
+    let (mut memory, mut overflow) = ([9; 16], [9; 20]);
+    let mut pool = Pool::new(&mut memory, &mut overflow).unwrap();
+    let reserved = pool.reserve(6).unwrap();
+    assert_eq!((&reserved.bytes[..], reserved.changes), (&[0; 6][..], 0));
+    reserved.bytes.copy_from_slice(b"page 7");
+    assert_eq!(pool.reservation(), b"page 7");
+    assert_eq!(pool.commit(7), Err(Refusal::CommitTooLong));
+    assert_eq!(pool.commit(6).unwrap().length, 6);
+    assert_eq!((pool.frame(), pool.reservation()), (&b"page 7"[..], &b""[..]));
+    pool.frame_mut()[5] = b'8';
+    let Ok(Taken::Slice(slice)) = pool.take(&mut []) else { panic!("the pool has room") };
+    let handle = raw::Handle { start: 0, length: 6, serial: 1, slot: 1 };
+    assert_eq!((slice.handle(), pool.record().live), (handle, 0x80));
+    pool.slice_mut(&slice).unwrap()[0] = b'P';
+    assert_eq!(pool.slice(&slice).unwrap(), b"Page 8");
+    assert!(pool.release(slice).is_ok());
+    assert_eq!(pool.record().live, 0);
+}
+
+#[test]
+fn truncate_spends_the_reservation() {
+    let (mut memory, mut overflow) = ([0; 16], [0; 20]);
+    let mut pool = Pool::new(&mut memory, &mut overflow).unwrap();
+    pool.reserve(6).unwrap();
+    pool.commit(6).unwrap();
+    pool.reserve(4).unwrap();
+    assert_eq!(pool.reservation_mut().len(), 4);
+    assert_eq!(pool.truncate(9).unwrap().length, 6);
+    assert_eq!(pool.commit(1), Err(Refusal::CommitTooLong));
+}
+
+#[test]
+fn an_entry_of_the_overflow_is_copied() {
+    let (mut memory, mut overflow) = ([0; 4], [0; 8]);
+    let mut pool = Pool::new(&mut memory, &mut overflow).unwrap();
+    assert_eq!(pool.reserve(9).unwrap_err(), Refusal::OverflowTooShort);
+    pool.reserve(8).unwrap().bytes.copy_from_slice(b"largetxt");
+    assert_eq!(pool.mode(), Mode::Overflow);
+    pool.commit(8).unwrap();
+    let mut destination = [b'.'; 9];
+    assert_eq!(pool.take(&mut destination[..7]).unwrap_err(), Refusal::DestinationTooShort);
+    assert!(matches!(pool.take(&mut destination), Ok(Taken::Copied(8))));
+    assert_eq!(&destination, b"largetxt.");
+}
+
+#[test]
+fn eight_slices_then_the_front() {
+    let (mut memory, mut overflow) = ([0; 17], [0; 20]);
+    let mut pool = Pool::new(&mut memory, &mut overflow).unwrap();
+    let mut slices: Vec<Slice> = (0..8).map(|n| pooled(&mut pool, &[n, n])).collect();
+    for slice in slices.drain(..2) {
+        assert!(pool.release(slice).is_ok());
+    }
+    let reserved = pool.reserve(4).unwrap();
+    assert_eq!((reserved.place.start, reserved.changes), (0, 1));
+    assert_eq!(pool.mode(), Mode::Front);
+    for (n, slice) in (2..).zip(&slices) {
+        assert_eq!(pool.slice(slice).unwrap(), [n, n]);
+    }
+}
+
+#[test]
+fn a_slice_of_another_pool_is_refused() {
+    let (mut memory, mut overflow) = ([0; 16], [0; 16]);
+    let (mut memory_2, mut overflow_2) = ([0; 16], [0; 16]);
+    let mut pool = Pool::new(&mut memory, &mut overflow).unwrap();
+    let mut other = Pool::new(&mut memory_2, &mut overflow_2).unwrap();
+    let (own, others) = (pooled(&mut pool, b"own"), pooled(&mut other, b"its"));
+    assert_eq!(own.handle(), others.handle());
+    assert_eq!(pool.slice(&others), Err(Refusal::NotLive));
+    let (others, refusal) = pool.release(others).unwrap_err();
+    assert_eq!((refusal, pool.record().live), (Refusal::NotLive, 0x80));
+    assert!(other.release(others).is_ok() && pool.release(own).is_ok());
+}
+
+#[test]
+fn memories_up_to_the_limit() {
+    let mut long = std::vec![0; raw::BYTE_LIMIT + 1];
+    assert_eq!(Pool::new(&mut long, &mut []).unwrap_err(), Refusal::MemoryTooLong);
+    assert_eq!(Pool::new(&mut [], &mut long).unwrap_err(), Refusal::MemoryTooLong);
+    let (memory, _) = long.split_at_mut(raw::BYTE_LIMIT);
+    assert!(Pool::new(memory, &mut []).is_ok());
+    assert!(Pool::new(&mut [], &mut []).is_ok());
+}
+
+#[test]
+fn the_numbers_of_refusals() {
+    for number in 1..=8 {
+        let refusal = Refusal::from_number(number).unwrap();
+        assert_eq!(refusal.number(), number);
+        assert!(refusal.to_string().starts_with(&std::format!("refusal {number}: ")));
+    }
+    assert!([0, 9, 255].iter().all(|&number| Refusal::from_number(number).is_none()));
+}

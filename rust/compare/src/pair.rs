@@ -1,0 +1,125 @@
+//! The Rust and the port side by side: the same events, and everything compared after each.
+
+use crate::counts::Counts;
+use crate::port::Port;
+use buffer_pool::raw::{self, Placed, Record};
+use oracle::calls::{Event, List, View};
+use oracle::classes::classes;
+use oracle::judge::{Answer, Judge};
+use oracle::record::{self, Mode, SLOTS};
+use std::fmt::Debug;
+
+/// A pool of the Rust and one of the archive that have had the same calls and writes.
+pub struct Pair {
+    pub judge: Judge,
+    pub port: Port,
+}
+
+impl Pair {
+    pub fn new(capacity: u32, overflow: u32) -> Result<Pair, String> {
+        let pair =
+            Pair { judge: Judge::new(capacity, overflow), port: Port::new(capacity, overflow)? };
+        pair.compare()?;
+        Ok(pair)
+    }
+
+    /// Another pair that has had the same.
+    pub fn again(&self) -> Pair {
+        Pair { judge: self.judge.again(), port: self.port.again() }
+    }
+
+    /// Does an event on both sides, compares them, and counts it. Gives the answer.
+    pub fn apply(&mut self, event: &Event, counts: &mut Counts) -> Result<Answer, String> {
+        let before = self.judge.situation();
+        let rust = self.judge.apply(event);
+        let port = self.port.apply(event)?;
+        same("the answer", &rust, &port)?;
+        self.compare()?;
+        counts.event(event, rust.refusal);
+        counts.views += 2 + u64::from(self.port.state.record.live.count_ones());
+        counts.tally.add(&classes(&before, event, &rust, &self.judge));
+        Ok(rust)
+    }
+
+    /// Writes a byte on both sides. What it leaves is compared after the next call.
+    pub fn write(&mut self, write: &Event, counts: &mut Counts) -> Result<(), String> {
+        counts.event(write, 0);
+        same("a write", &self.judge.apply(write), &self.port.apply(write)?)
+    }
+
+    /// Every number and byte that can be seen on both sides is the same.
+    fn compare(&self) -> Result<(), String> {
+        let at = self.judge.situation();
+        let record = &self.port.state.record;
+        same("the record", &at.record, &numbers(record))?;
+        same("the reservation's length", &(at.reserved as u64), &record.reserved)?;
+        same("serials given", &self.judge.serials(), &record.given)?;
+        same("the pool memory", &self.judge.pool_bytes(), &self.port.state.pool.bytes())?;
+        self.compare_view("the frame", View::Frame, self.judge.frame())?;
+        self.compare_view("the reservation", View::Reservation, self.judge.reservation())?;
+        for (slot, bytes) in self.judge.slices() {
+            let (serial, ..) = self.judge.slice_place(slot).expect("a live slot");
+            same("the slot", &slot, &usize::from(self.port.handle(serial).slot))?;
+            self.compare_view("a slice", View::Slice(serial), bytes)?;
+        }
+        Ok(())
+    }
+
+    /// The archive gives a view where the Rust has it, with these bytes.
+    fn compare_view(&self, what: &str, view: View, bytes: &[u8]) -> Result<(), String> {
+        let Placed { place, refusal } = self.port.view(view);
+        let in_overflow = self.judge.situation().record.mode == Mode::Overflow;
+        let memory = match view {
+            View::Frame | View::Reservation if in_overflow => raw::OVERFLOW_MEMORY,
+            _ => raw::POOL_MEMORY,
+        };
+        let (start, length) = self.judge.view_place(view);
+        let rust = (0, raw::Place { start: start as u64, length: length as u64, memory });
+        same(what, &rust, &(refusal, place))?;
+        same(what, &Some(bytes), &self.port.state.part(place))
+    }
+}
+
+/// The archive's record as the Rust's numbers. A mode that is none has no such numbers and is taken
+/// as a front without slots, which the Rust never has.
+fn numbers(record: &Record) -> record::Record {
+    let mode = match record.mode {
+        raw::BACK => Mode::Back,
+        raw::OVERFLOW => Mode::Overflow,
+        raw::FRONT => Mode::Front {
+            slots: record.front_back_start,
+            bytes: record.front_byte_capacity as usize,
+            used: record.front_len,
+        },
+        _ => Mode::Front { slots: 0, bytes: 0, used: 0 },
+    };
+    let slot = |at: usize| (record.starts[at] as usize, record.lengths[at] as usize);
+    record::Record {
+        mode,
+        live: record.live,
+        back_start: record.back_start,
+        back_count: record.back_len,
+        frame_start: record.raw_offset as usize,
+        frame_len: record.raw_len as usize,
+        slots: std::array::from_fn::<_, SLOTS, _>(slot),
+        used: record.used,
+    }
+}
+
+/// Says what differs.
+fn same<T: PartialEq + Debug>(what: &str, rust: &T, port: &T) -> Result<(), String> {
+    if rust == port {
+        return Ok(());
+    }
+    Err(format!("{what}\n  the Rust: {rust:?}\n  the port: {port:?}"))
+}
+
+/// Runs a list; gives the disagreement and how many events had been done with it, if there is one.
+pub fn run(list: &List, counts: &mut Counts) -> Result<(), (usize, String)> {
+    let mut pair = Pair::new(list.capacity, list.overflow).map_err(|cause| (0, cause))?;
+    counts.list(list.capacity, list.overflow);
+    for (at, event) in list.events.iter().enumerate() {
+        pair.apply(event, counts).map_err(|cause| (at + 1, cause))?;
+    }
+    Ok(())
+}
