@@ -78,6 +78,7 @@ fitsIn Back w r len = backFits w r len
 fitsIn (Front f) w r len = ltb (f .len) (f .«back_start») && frontFits r (f .«byte_capacity») len
 fitsIn Alloc w r len = keepsIn w r && leb (r .cursor + len + 0) (r .kept)
 
+-- no reset, and the frame stays and fits: only the reservation changes
 unfoldable pub settled : ℕ → BufferPool → ℕ → Bool
 settled w r len = not (resets r) && fitsIn (r .mode) w r len
 
@@ -89,6 +90,7 @@ startsOver r len = resets r && (not (isAlloc (r .mode)) && (eqb (r .«raw_len»)
 unfoldable pub growingHere : ℕ → BufferPool → ℕ → Bool
 growingHere w r len = keepsIn w r && (leb (r .cursor + len + 0) (r .overflow) && not (leb (r .cursor + len + 0) (r .kept)))
 
+-- no reset, and the frame stays in A with more kept bytes
 unfoldable pub growing : ℕ → BufferPool → ℕ → Bool
 growing w r len = not (resets r) && (isAlloc (r .mode) && growingHere w r len)
 

@@ -14,16 +14,19 @@ use Rattle.buffer_pool_c.specs.declared.results.ReserveResult.{ReserveRe
 use Rattle.buffer_pool_c.specs.declared.results.PlaceResult.{PlaceResult}
 use Rattle.buffer_pool_c.specs.declared.results.TakeResult.{TakeResult}
 
+-- the number of a memory, as C has it: the pool 0, the overflow 1
 abbrev pub memoryNumber : Memory → ℕ
 memoryNumber Pool = 0
 memoryNumber Overflow = 1
 
+-- a place as C has it
 abbrev pub placeOf : range.Place → Place
 placeOf p = record { start = p .start; length = p .length; memory = memoryNumber (p .memory) }
 
 abbrev pub noPlace : Place
 noPlace = record { start = 0; length = 0; memory = 0 }
 
+-- the place that an answer tells
 abbrev pub placeIn : Answer → Place
 placeIn Done = noPlace
 placeIn (Reserved p changes) = placeOf p
@@ -32,6 +35,7 @@ placeIn (Taken h) = noPlace
 placeIn (Copied n) = noPlace
 placeIn (Refused number) = noPlace
 
+-- the changes of mode that a reserve tells
 abbrev pub changesIn : Answer → ℕ
 changesIn Done = 0
 changesIn (Reserved p changes) = changes
@@ -43,9 +47,11 @@ changesIn (Refused number) = 0
 abbrev pub noHandle : Handle
 noHandle = record { start = 0; length = 0; serial = 0; slot = 0 }
 
+-- a handle as C has it
 abbrev pub handleOf : pool.Handle → Handle
 handleOf h = record { start = h .start; length = h .length; serial = h .serial; slot = h .slot }
 
+-- the handle that a take tells
 abbrev pub handleIn : Answer → Handle
 handleIn Done = noHandle
 handleIn (Reserved p changes) = noHandle
@@ -54,12 +60,15 @@ handleIn (Taken h) = handleOf h
 handleIn (Copied n) = noHandle
 handleIn (Refused number) = noHandle
 
+-- what a reserve gives
 abbrev pub reserveResult : Answer → ReserveResult
 reserveResult a = record { place = placeIn a; changes = changesIn a; refusal = refusal a }
 
+-- what a commit or a truncate gives
 abbrev pub placeResult : Answer → PlaceResult
 placeResult a = record { place = placeIn a; refusal = refusal a }
 
+-- what a take gives
 abbrev pub takeResult : Answer → TakeResult
 takeResult a = record { handle = handleIn a; copied = copiedLength a; refusal = refusal a }
 
