@@ -30,24 +30,25 @@ use Rattle.buffer_pool.specs.Moves.{Memories, act, perform}
 use Rattle.buffer_pool.specs.Placing.{Decision, place, tooLong}
 use Rattle.buffer_pool.specs.Soundness as test
 use Rattle.buffer_pool.specs.Sound.{InMode, Orderly, Sound}
-use Rattle.buffer_pool.specs.Steps.{refusal, called, at, frameOf, frame, reservation, reserveOn, reserveStep, resized, reframed, refused, commitStep, truncateStep, mostSerials, nextHandle, handedOut, longer, takeOn, takeStep, takeMoves, names, releaseStep}
+use Rattle.buffer_pool.specs.Values.{values}
+use Rattle.buffer_pool.specs.Steps.{called, at, frameOf, frame, reservation, reserveOn, reserveStep, resized, reframed, refused, commitStep, truncateStep, mostSerials, nextHandle, handedOut, longer, takeOn, takeStep, takeMoves, names, releaseStep}
 use Rattle.buffer_pool.specs.declared.buffer_pool.View.{View}
-use Rattle.buffer_pool.specs.Calls.{Outcome, outcome, copiedOut, shown, hidden, memoryAt, bytesAt, written}
-use Rattle.buffer_pool.specs.Causes.{Part, TheFrame, TheReservation, TheSlice, Call, Reserve, Commit, Truncate, Take, Release, Look, viewOf}
+use Rattle.buffer_pool.specs.Calls.{Outcome, outcome, misfit, copiedOut, shown, hidden, memoryAt, bytesAt, written}
+use Rattle.buffer_pool.specs.Vocabulary.{Part, TheFrame, TheReservation, TheSlice, Call, Reserve, Commit, Truncate, Take, Release, Look, viewOf, call}
 use Rattle.buffer_pool.proofs.Soundness.{sound-make}
 use Rattle.buffer_pool.proofs.Unchanged.{Fixed, fixed, place-capacity, place-overflow, place-live, place-serials, place-starts, place-lengths}
 use Rattle.buffer_pool.proofs.Ranges.{orderly-claim}
 use Rattle.buffer_pool.proofs.SoundKept.{Step, step, step-orderly, step-sizes}
 use Rattle.buffer_pool.proofs.SoundKept as kept
-use Rattle.book.specs.Events.{Event, Own, Other, Write, State, call, next}
-use Rattle.book.specs.Book.{Pair, pair, Book, book, note, noteWrite, answered, noted}
+use Rattle.book.specs.Entries.{Entry, Own, Other, Write, State, lentOther, next}
+use Rattle.book.specs.Book.{Pair, pair, Book, book, note, noteWrite, noted}
 use Rattle.book.specs.Demand3.{Member, sliceOf}
 use Rattle.book.proofs.Carried.{Sized, pooled}
 use Rattle.book.proofs.Carries.{Enough, place-carries}
 use Rattle.book.proofs.Places.{Off, below, above, off-sym, written-same, written-off, written-sized}
 use Rattle.book.proofs.Slices.{Named, names-use, names-make, slice-frame, slice-offer, slice-slice}
 use Rattle.book.proofs.Pairs.{Booked, booked-beside, booked-slots, booked-written, booked-claimed, booked-released}
-use Rattle.book.proofs.Plain.{plainView, plainTake, plain, sized-fits, view-own, call-own}
+use Rattle.book.proofs.Plain.{plainView, plainTake, plain, sized-fits, view-own, call-own, call-other}
 
 pub record Agrees (w : ℕ) (r : BufferPool) (m : Memories) (b : Book) : Type 0 where
   pub sound : Sound w r
@@ -125,7 +126,8 @@ sound-after w r c S =
 
 abbrev After : ℕ → Book → Call → Outcome → Type 0
 After w b c o =
-    Agrees w (o .call .pool) (o .memory) (note b (Own c) (o .call .answer) (answered (o .memory) (o .call .answer)))
+    let said = values (o .call .answer) in
+    Agrees w (o .call .pool) (o .memory) (note b (Own c) said (bytesAt (o .memory) (said .place)))
 
 module _ (w : ℕ) (r : BufferPool) (m : Memories) (b : Book) (G : Agrees w r m b) where
   abbrev S : Orderly w r
@@ -163,7 +165,7 @@ module _ (w : ℕ) (r : BufferPool) (m : Memories) (b : Book) (G : Agrees w r m 
         }
 
     reserve-agrees : After w b (Reserve len) (plain w r m (Reserve len))
-    unfolding reserveStep reserveOn refusal tooLong
+    unfolding reserveStep reserveOn tooLong
     reserve-agrees = go (tooLong d len) refl (sound-after w r (kept.Reserve len) (G .sound))
       where
         go : (t : Bool) → tooLong d len ≡ t → Sound w (reserveOn t r d .pool)
@@ -187,7 +189,7 @@ module _ (w : ℕ) (r : BufferPool) (m : Memories) (b : Book) (G : Agrees w r m 
       }
 
   commit-agrees : (n : ℕ) → After w b (Commit n) (plain w r m (Commit n))
-  unfolding commitStep refusal bytesAt
+  unfolding commitStep bytesAt
   commit-agrees n = go (ltb (r .reserved) n) refl (sound-after w r (kept.Commit n) (G .sound))
     where
       go : (t : Bool) → ltb (r .reserved) n ≡ t
@@ -200,7 +202,7 @@ module _ (w : ℕ) (r : BufferPool) (m : Memories) (b : Book) (G : Agrees w r m 
           ∙ rw (← G .gathered, ← G .offered) refl)
 
   truncate-agrees : (n : ℕ) → After w b (Truncate n) (plain w r m (Truncate n))
-  unfolding truncateStep refusal bytesAt
+  unfolding truncateStep bytesAt
   truncate-agrees n =
       resized-agrees (r .mode) (min (frame r .length) n) _ (sound-after w r (kept.Truncate n) (G .sound))
       (cuts (memoryAt (frame r .memory) m) (frame r .start) (frame r .length) n ∙ ap (take n) (G .gathered))
@@ -225,7 +227,7 @@ module _ (w : ℕ) (r : BufferPool) (m : Memories) (b : Book) (G : Agrees w r m 
       (refl, length-copied (m .overflow) (suc n) (r .kept - suc n) (m .overflow) 0 (omega arith) (omega arith))
 
   take-agrees : (destination : List ℕ) → After w b (Take destination) (plain w r m (Take destination))
-  unfolding takeStep takeOn copiedOut refusal takeMoves perform bytesAt
+  unfolding takeStep takeOn copiedOut takeMoves perform bytesAt
   take-agrees destination =
       go (eqb (frame r .length) 0) (ltb (length destination) (frame r .length)) (leb mostSerials (r .given)) (r .mode) refl
       (S .in-mode) (G .gathered) (sound-after w r (kept.Take (length destination)) (G .sound))
@@ -270,7 +272,7 @@ module _ (w : ℕ) (r : BufferPool) (m : Memories) (b : Book) (G : Agrees w r m 
   -- ---- Release and the views
 
   release-agrees : (h : Handle) → After w b (Release h) (plain w r m (Release h))
-  unfolding releaseStep refusal
+  unfolding releaseStep
   release-agrees h = go (names w r h) refl (sound-after w r (kept.Release h) (G .sound))
     where
       go : (t : Bool) → names w r h ≡ t → Sound w (pick t (called (freed w r (h .slot)) Done) (refused r 7) .pool)
@@ -287,7 +289,7 @@ module _ (w : ℕ) (r : BufferPool) (m : Memories) (b : Book) (G : Agrees w r m 
       go false e N = G
 
   look-agrees : (v : Part) → After w b (Look v) (plain w r m (Look v))
-  look-agrees v = go (eqb (refusal (plain w r m (Look v) .call .answer)) 0)
+  look-agrees v = go (eqb (values (plain w r m (Look v) .call .answer) .number) 0)
     where
       go : (t : Bool) → Agrees w r m (pick t b b)
       go true = G
@@ -354,10 +356,18 @@ module _ (w : ℕ) (r : BufferPool) (m : Memories) (b : Book) (G : Agrees w r m 
 
 -- ---- Every entry
 
-pub next-agrees : (w : ℕ) (s : State) (b : Book) → Agrees w (s .pool) (s .lent) b → (e : Event)
+pub next-agrees : (w : ℕ) (s : State) (b : Book) → Agrees w (s .pool) (s .lent) b → (e : Entry)
     → Agrees w (next w s e .pool) (next w s e .lent) (noted w s b e)
 next-agrees w s b G (Own c) = subst (After w b c) (sym (agrees-call G c)) (call-agrees w (s .pool) (s .lent) b G c)
-next-agrees w s b G (Other m c) = G
+next-agrees w s b G (Other m c) = go (misfit (s .pool) m) refl
+  where
+    other : Bool → Outcome
+    other t = lentOther t s (call w (s .pool) m c)
+
+    go : (t : Bool) → misfit (s .pool) m ≡ t → Agrees w (other t .call .pool) (other t .memory) b
+    go true f =
+        subst (λ (o : Outcome). Agrees w (o .call .pool) (s .lent) b) (sym (call-other w (s .pool) m (agrees-tested G) f c)) G
+    go false f = G
 next-agrees w s b G (Write v i byte) =
     subst (λ (x : View). Agrees w (s .pool) (written (s .lent) (x .place) i byte) (noteWrite b v i byte))
     (sym (agrees-view G v)) (write-agrees w (s .pool) (s .lent) b G v i byte)

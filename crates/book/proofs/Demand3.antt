@@ -6,9 +6,9 @@ use Prim.Native.Nat.{ℕ, _≤_, _<_}
 use lib.ListN.{length}
 use Rattle.buffer_pool.specs.Record.{byteLimit}
 use Rattle.buffer_pool.specs.Moves.{Memories}
-use Rattle.buffer_pool.specs.Steps.{refusal}
+use Rattle.buffer_pool.specs.Values.{refusal}
 use Rattle.buffer_pool.specs.Calls.{new}
-use Rattle.book.specs.Events.{Event, opened}
+use Rattle.book.specs.Entries.{Entry, opened}
 use Rattle.book.specs.Book.{emptyBook}
 use Rattle.book.specs.Demand3.{Always, calls, seen}
 use Rattle.book.proofs.Keeps.{new-agrees, new-unrefused, always}
@@ -21,13 +21,13 @@ unrefused w m p o = new-unrefused w m p o
 
 -- from what an unrefused new returned, whatever bytes it was lent: for every list of entries, before the first and after
 -- each, the book is kept
-pub book-kept : (w : ℕ) (m : Memories) (es : List Event) → 0 < w → refusal (new w m .call .answer) ≡ 0
+pub book-kept : (w : ℕ) (m : Memories) (es : List Entry) → 0 < w → refusal (new w m .call .answer) ≡ 0
     → Always w (opened w m) emptyBook es
 book-kept w m es h u = always w es (opened w m) emptyBook (new-agrees w m h u)
 
 -- from memories of the same lengths, two lists of the same calls, handles and lengths are seen alike at every call, whatever
 -- bytes the memories hold and whatever is written
-pub alike : (w : ℕ) (m m′ : Memories) (es es′ : List Event) → 0 < w → refusal (new w m .call .answer) ≡ 0
+pub alike : (w : ℕ) (m m′ : Memories) (es es′ : List Entry) → 0 < w → refusal (new w m .call .answer) ≡ 0
     → length (m .pool) ≡ length (m′ .pool) → length (m .overflow) ≡ length (m′ .overflow) → calls es ≡ calls es′
     → seen w (opened w m) es ≡ seen w (opened w m′) es′
 alike w m m′ es es′ h u p o e = seen-alike w m m′ es es′ h u p o e

@@ -10,20 +10,20 @@ use Rattle.buffer_pool.specs.Record.{slotCount}
 use Rattle.buffer_pool.specs.Moves.{memories}
 use Rattle.buffer_pool.specs.Steps.{at, frame, reservation}
 use Rattle.buffer_pool.specs.Calls.{bytesAt}
-use Rattle.buffer_pool.specs.Causes.{TheFrame, TheReservation, TheSlice, Reserve, Commit, Truncate, Take, Release, Look, viewOf}
+use Rattle.buffer_pool.specs.Vocabulary.{TheFrame, TheReservation, TheSlice, Reserve, Commit, Truncate, Take, Release, Look, viewOf, viewAnswer, call}
 use Rattle.buffer_pool.specs.Computing.{definitions}
-use Rattle.book.specs.Events.{Event, Own, Other, Write, State, opened, happens, next}
+use Rattle.book.specs.Entries.{Entry, Own, Other, Write, State, opened, happens, next}
 use Rattle.book.specs.Book.{Pair, pair, Book, book, emptyBook, sameHandle, without, rewritten, noted}
 use Rattle.book.specs.Demand3.{sliceOf}
 
 -- an entry, its answer, the book after it, and frame, reservation and slices as shown then
 record Line : Type 0 where
-  entry : Event
+  entry : Entry
   answer : Answer
   noted : Book
   shown : Book
 
-abbrev line : Event → Answer → Book → Line
+abbrev line : Entry → Answer → Book → Line
 line e a b = record { entry = e; answer = a; noted = b; shown = b }
 
 abbrev shownBeside : State → Book → Book
@@ -31,7 +31,7 @@ shownBeside s b =
     book (bytesAt (s .lent) (frame (s .pool))) (bytesAt (s .lent) (reservation (s .pool)))
     (map (λ (x : Pair). pair (x .handle) (bytesAt (s .lent) (sliceOf x))) (b .pairs))
 
-told : State → Book → List Event → List Line
+told : State → Book → List Entry → List Line
 told s b [] = []
 told s b (e ∷ es) =
     record {
@@ -58,7 +58,7 @@ lines =
     ∷ line (Own (Take [])) (Taken first) (book [] [] (pair first (0 ∷ 7 ∷ []) ∷ []))
     ∷ line (Own (Reserve 3)) (Reserved (at Overflow 0 3) 1) (book [] (0 ∷ 0 ∷ 0 ∷ []) (pair first (0 ∷ 7 ∷ []) ∷ []))
     ∷ line (Write (TheSlice first) 0 6) Done (book [] (0 ∷ 0 ∷ 0 ∷ []) (pair first (6 ∷ 7 ∷ []) ∷ []))
-    ∷ line (Write (TheSlice invented) 0 8) Done (book [] (0 ∷ 0 ∷ 0 ∷ []) (pair first (6 ∷ 7 ∷ []) ∷ []))
+    ∷ line (Write (TheSlice invented) 0 8) (Refused 7) (book [] (0 ∷ 0 ∷ 0 ∷ []) (pair first (6 ∷ 7 ∷ []) ∷ []))
     ∷ line (Write TheReservation 0 5) Done (book [] (5 ∷ 0 ∷ 0 ∷ []) (pair first (6 ∷ 7 ∷ []) ∷ []))
     ∷ line (Own (Commit 3)) (Framed (at Overflow 0 3)) (book (5 ∷ 0 ∷ 0 ∷ []) [] (pair first (6 ∷ 7 ∷ []) ∷ []))
     ∷ line (Own (Truncate 1)) (Framed (at Overflow 0 1)) (book (5 ∷ []) [] (pair first (6 ∷ 7 ∷ []) ∷ []))
@@ -70,13 +70,13 @@ lines =
     ∷ line (Other (memories [] []) (Release first)) (Refused 2) (book [] [] (pair first (6 ∷ 7 ∷ []) ∷ []))
     ∷ line (Own (Release first)) Done (book [] [] [])
     ∷ line (Own (Release first)) (Refused 7) (book [] [] [])
-    ∷ line (Write (TheSlice first) 0 8) Done (book [] [] [])
+    ∷ line (Write (TheSlice first) 0 8) (Refused 7) (book [] [] [])
     ∷ []
 
-entries : List Line → List Event
+entries : List Line → List Entry
 entries [] = []
 entries (l ∷ ls) = l .entry ∷ entries ls
 
 example : told (opened slotCount (memories (9 ∷ 9 ∷ 9 ∷ 9 ∷ []) (4 ∷ 3 ∷ 2 ∷ 1 ∷ []))) emptyBook (entries lines) ≡ lines
-unfolding told entries lines definitions viewOf sameHandle without rewritten
+unfolding told entries lines definitions call viewOf viewAnswer sameHandle without rewritten
 example = refl

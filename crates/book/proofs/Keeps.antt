@@ -12,28 +12,26 @@ use lib.Dec.{leb, ltb, eqb}
 use lib.ListN.{length, drop, replicate, length-replicate}
 use Rattle.laws.specs.Tests.{pick}
 use Rattle.laws.specs.Lists.{part, copied}
-use Rattle.laws.proofs.Tests.{no-true, either-false}
+use Rattle.laws.proofs.Tests.{either-false}
 use Rattle.laws.proofs.Lists.{part-none, length-part}
 use Rattle.buffer_pool.specs.declared.buffer_pool.BufferPool.{BufferPool}
 use Rattle.buffer_pool.specs.declared.buffer_pool.PoolMode.{PoolMode}
 use Rattle.buffer_pool.specs.declared.buffer_pool.PoolMode.the-variants.{Back, Front, Alloc}
-use Rattle.buffer_pool.specs.declared.buffer_pool.Answer.{Answer}
-use Rattle.buffer_pool.specs.declared.buffer_pool.Answer.the-variants.{Done, Reserved, Framed, Taken, Copied, Refused}
-use Rattle.buffer_pool.specs.declared.buffer_pool.Called.{Called}
 use Rattle.buffer_pool.specs.declared.slice.Handle.{Handle}
-use Rattle.buffer_pool.specs.Record.{byteLimit, newRecord}
-use Rattle.buffer_pool.specs.Moves.{Memories, memories}
+use Rattle.buffer_pool.specs.Record.{byteLimit}
+use Rattle.buffer_pool.specs.Moves.{Memories}
 use Rattle.buffer_pool.specs.Soundness.{sound}
 use Rattle.buffer_pool.specs.Sound.{InMode, Orderly}
-use Rattle.buffer_pool.specs.Steps.{refusal, called, frameOf, frame, mostSerials, takeOn, takeStep, copiedLength}
-use Rattle.buffer_pool.specs.Calls.{Outcome, outcome, new, copiedOut, shown, hidden, memoryAt, bytesAt}
-use Rattle.buffer_pool.specs.Causes.{TheFrame, TheReservation, TheSlice, Take}
+use Rattle.buffer_pool.specs.Values.{noPlace, noHandle, Values, valued, refusal, values}
+use Rattle.buffer_pool.specs.Steps.{frameOf, frame, mostSerials, takeOn, takeStep}
+use Rattle.buffer_pool.specs.Calls.{Outcome, newOn, new, copiedOut, shown, hidden, memoryAt, bytesAt}
+use Rattle.buffer_pool.specs.Vocabulary.{TheFrame, TheReservation, TheSlice, Take}
 use Rattle.buffer_pool.proofs.Soundness.{sound-use}
 use Rattle.buffer_pool.proofs.Order.{none-held}
 use Rattle.buffer_pool.proofs.Unchanged.{fixed}
 use Rattle.buffer_pool.proofs.Ranges.{bytesFor, orderly-inside}
 use Rattle.buffer_pool.proofs.SoundKept.{sound-new}
-use Rattle.book.specs.Events.{Event, State, opened, next}
+use Rattle.book.specs.Entries.{Entry, State, opened, next}
 use Rattle.book.specs.Book.{Pair, Book, emptyBook, noted}
 use Rattle.book.specs.Demand3.{Member, sliceOf, Apart, AllApart, Shows, Kept, Always}
 use Rattle.book.proofs.Places.{off-apart}
@@ -42,16 +40,9 @@ use Rattle.book.proofs.Pairs.{Once}
 use Rattle.book.proofs.Plain.{plainTake, plain, call-other}
 use Rattle.book.proofs.Agrees.{Agrees, agrees-tested, agrees-view, agrees-call, empty-at, next-agrees}
 
-abbrev isCopied : Answer → Bool
-isCopied Done = false
-isCopied (Reserved p changes) = false
-isCopied (Framed p) = false
-isCopied (Taken h) = false
-isCopied (Copied n) = true
-isCopied (Refused number) = false
-
-not-copied : {a : Answer} {n : ℕ} → isCopied a ≡ false → a ≡ Copied n → ⊥
-not-copied f e = no-true (sym f ∙ ap isCopied e)
+-- what the answer of a take says that copied n bytes
+abbrev copying : ℕ → Values
+copying n = valued 0 noPlace noHandle n 0
 
 module _ (w : ℕ) (s : State) (b : Book) (G : Agrees w (s .pool) (s .lent) b) where
   abbrev r : BufferPool
@@ -105,7 +96,7 @@ module _ (w : ℕ) (s : State) (b : Book) (G : Agrees w (s .pool) (s .lent) b) w
   Copy : List ℕ → ℕ → List ℕ → Type 0
   Copy destination n after = (n ≡ length (b .F)) × (after ≡ b .F ++ drop n destination)
 
-  copies : (destination : List ℕ) (n : ℕ) → plain w r m (Take destination) .call .answer ≡ Copied n
+  copies : (destination : List ℕ) (n : ℕ) → values (plain w r m (Take destination) .call .answer) ≡ copying n
       → Copy destination n (plain w r m (Take destination) .destination)
   unfolding Copy takeStep takeOn copiedOut copied bytesAt part
   copies destination n =
@@ -113,19 +104,19 @@ module _ (w : ℕ) (s : State) (b : Book) (G : Agrees w (s .pool) (s .lent) b) w
       (S .in-mode) (G .gathered)
     where
       go : (z long spent : Bool) (mode : PoolMode) → eqb (frameOf mode r .length) 0 ≡ z → InMode w mode r (r .reserved)
-          → bytesAt m (frameOf mode r) ≡ b .F → takeOn z long spent mode w r .answer ≡ Copied n
+          → bytesAt m (frameOf mode r) ≡ b .F → values (takeOn z long spent mode w r .answer) ≡ copying n
           → Copy destination n (plainTake r m destination (takeOn z long spent mode w r) .destination)
       go true long spent mode e I h a =
           let none : b .F ≡ [] = sym h ∙ empty-at m (frameOf mode r) (eqb-true (frameOf mode r .length) 0 e) in
-          let count : 0 ≡ n = ap copiedLength a in
+          let count : 0 ≡ n = ap (λ (v : Values). v .length) a in
           rw (none, ← count) (refl, refl)
-      go false long true Back e I h a = absurd (not-copied refl a)
-      go false long false Back e I h a = absurd (not-copied refl a)
-      go false long true (Front f) e I h a = absurd (not-copied refl a)
-      go false long false (Front f) e I h a = absurd (not-copied refl a)
-      go false true spent Alloc e I h a = absurd (not-copied refl a)
+      go false long true Back e I h a = absurd (omega (arith, ap (λ (v : Values). v .number) a))
+      go false long false Back e I h a = absurd (omega (arith, ap (λ (v : Values). v .handle .slot) a))
+      go false long true (Front f) e I h a = absurd (omega (arith, ap (λ (v : Values). v .number) a))
+      go false long false (Front f) e I h a = absurd (omega (arith, ap (λ (v : Values). v .handle .slot) a))
+      go false true spent Alloc e I h a = absurd (omega (arith, ap (λ (v : Values). v .number) a))
       go false false spent Alloc e I h a =
-          let count : r .cursor ≡ n = ap copiedLength a in
+          let count : r .cursor ≡ n = ap (λ (v : Values). v .length) a in
           let within : 0 + r .cursor ≤ length (m .overflow) = omega (arith, I .fits, S .kept-within, G .sized .overflow-is) in (
             sym count ∙ sym (length-part (m .overflow) 0 (r .cursor) within) ∙ ap length h,
             rw (← count, zero-add) (ap (λ (x : List ℕ). x ++ drop (r .cursor) destination) h),
@@ -146,9 +137,9 @@ module _ (w : ℕ) (s : State) (b : Book) (G : Agrees w (s .pool) (s .lent) b) w
         apart-frame = λ x i. off-apart (slice-frame w r S (x .handle) (G .booked .named x i));
         apart-reservation = λ x i. off-apart (slice-offer w r S (x .handle) (G .booked .named x i));
         copied = λ destination n.
-            subst (λ (o : Outcome). o .call .answer ≡ Copied n → Copy destination n (o .destination))
+            subst (λ (o : Outcome). values (o .call .answer) ≡ copying n → Copy destination n (o .destination))
             (sym (agrees-call G (Take destination))) (copies destination n);
-        refused-other = λ x c f. ap (λ (o : Called). o .answer) (call-other w r x (agrees-tested G) f c);
+        refused-other = λ x c f. call-other w r x (agrees-tested G) f c;
       }
 
 -- ---- A new pool
@@ -158,18 +149,12 @@ module _ (w : ℕ) (m : Memories) where
   abbrev pub long : Bool
   long = ltb byteLimit (length (m .pool)) || ltb byteLimit (length (m .overflow))
 
-  abbrev pub newOn : Bool → Outcome
-  newOn t =
-      pick t (outcome (called (newRecord w 0 0) (Refused 3)) m [])
-      (outcome (called (newRecord w (length (m .pool)) (length (m .overflow))) Done)
-      (memories (replicate (length (m .pool)) 0) (m .overflow)) [])
-
   pub new-agrees : 0 < w → refusal (new w m .call .answer) ≡ 0 → Agrees w (opened w m .pool) (opened w m .lent) emptyBook
   unfolding new refusal bytesAt
   new-agrees h = go long refl
     where
-      go : (t : Bool) → long ≡ t → refusal (newOn t .call .answer) ≡ 0
-          → Agrees w (newOn t .call .pool) (newOn t .memory) emptyBook
+      go : (t : Bool) → long ≡ t → refusal (newOn t w m .call .answer) ≡ 0
+          → Agrees w (newOn t w m .call .pool) (newOn t w m .memory) emptyBook
       go true e u = absurd (omega arith)
       go false e u =
           let x = either-false (ltb byteLimit (length (m .pool))) _ e in
@@ -197,7 +182,7 @@ module _ (w : ℕ) (m : Memories) where
 
 -- ---- Every list
 
-pub always : (w : ℕ) (es : List Event) (s : State) (b : Book) → Agrees w (s .pool) (s .lent) b → Always w s b es
+pub always : (w : ℕ) (es : List Entry) (s : State) (b : Book) → Agrees w (s .pool) (s .lent) b → Always w s b es
 unfolding Always
 always w [] s b G = agrees-kept w s b G
 always w (e ∷ es) s b G = (agrees-kept w s b G, always w es (next w s e) (noted w s b e) (next-agrees w s b G e))

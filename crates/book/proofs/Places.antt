@@ -7,7 +7,7 @@ use Prim.Native.Nat.{ℕ, _+_, _≤_, _<_}
 use native.Mathlib.Omega.{arith}
 use borrow.Author.Tests.{ltb-true, ltb-false}
 use lib.Dec.{ltb}
-use lib.ListN.{length, set, length-set, length-take}
+use lib.ListN.{set, length-set, length-take}
 use lib.Seq.{set-out}
 use Rattle.laws.specs.Tests.{pick}
 use Rattle.laws.specs.Lists.{part}

@@ -13,12 +13,12 @@ use Rattle.buffer_pool.specs.declared.buffer_pool.Called.{Called}
 use Rattle.buffer_pool.specs.Moves.{Memories, perform}
 use Rattle.buffer_pool.specs.Placing.{place, tooLong}
 use Rattle.buffer_pool.specs.Soundness.{sound}
-use Rattle.buffer_pool.specs.Steps.{called, refused, at, frame, reservation, reserveStep, commitStep, truncateStep, takeStep, copiedLength, names, releaseStep}
+use Rattle.buffer_pool.specs.Values.{values}
+use Rattle.buffer_pool.specs.Steps.{called, refused, at, frame, reservation, reserveStep, commitStep, truncateStep, takeStep, names, releaseStep}
 use Rattle.buffer_pool.specs.declared.buffer_pool.View.{View}
 use Rattle.buffer_pool.specs.Calls.{Outcome, outcome, misfit, reserve, commit, truncate, copiedOut, take, release, shown, hidden, frameView, reservationView, sliceView}
-use Rattle.buffer_pool.specs.Causes.{Part, TheFrame, TheReservation, TheSlice, Call, Reserve, Commit, Truncate, Take, Release, Look, viewOf}
+use Rattle.buffer_pool.specs.Vocabulary.{Part, TheFrame, TheReservation, TheSlice, Call, Reserve, Commit, Truncate, Take, Release, Look, destinationOf, viewOf, viewAnswer, call}
 use Rattle.buffer_pool.proofs.Unchanged.{fixed}
-use Rattle.book.specs.Events.{viewAnswer, call}
 use Rattle.book.proofs.Carried.{Sized}
 
 abbrev pub plainView : ℕ → BufferPool → Part → View
@@ -28,7 +28,7 @@ plainView w r (TheSlice h) = pick (names w r h) (shown (at Pool (h .start) (h .l
 
 -- a take with this step
 abbrev pub plainTake : BufferPool → Memories → List ℕ → Called → Outcome
-plainTake r m destination call = copiedOut call r m destination (copiedLength (call .answer))
+plainTake r m destination call = copiedOut call r m destination (values (call .answer) .length)
 
 abbrev pub plain : ℕ → BufferPool → Memories → Call → Outcome
 plain w r m (Reserve len) =
@@ -52,7 +52,7 @@ module _ (w : ℕ) (r : BufferPool) (m : Memories) (e : sound w r ≡ true) wher
   view-own f (TheSlice h) = rw (e, f)
 
   pub call-own : misfit r m ≡ false → (c : Call) → call w r m c ≡ plain w r m c
-  unfolding reserve commit truncate take release
+  unfolding call reserve commit truncate take release
   call-own f (Reserve len) = rw (e, f)
   call-own f (Commit n) = rw (e, f)
   call-own f (Truncate n) = rw (e, f)
@@ -66,11 +66,11 @@ module _ (w : ℕ) (r : BufferPool) (m : Memories) (e : sound w r ≡ true) wher
   view-other f TheFrame = rw (e, f)
   view-other f (TheSlice h) = rw (e, f)
 
-  pub call-other : misfit r m ≡ true → (c : Call) → call w r m c .call ≡ refused r 2
-  unfolding reserve commit truncate take release
+  pub call-other : misfit r m ≡ true → (c : Call) → call w r m c ≡ outcome (refused r 2) m (destinationOf c)
+  unfolding call viewAnswer reserve commit truncate take release
   call-other f (Reserve len) = rw (e, f)
   call-other f (Commit n) = rw (e, f)
   call-other f (Truncate n) = rw (e, f)
   call-other f (Take destination) = rw (e, f)
   call-other f (Release h) = rw (e, f)
-  call-other f (Look v) = ap (λ (x : View). called r (viewAnswer (x .number) (x .place))) (view-other f v)
+  call-other f (Look v) = ap (λ (x : View). outcome (called r (viewAnswer (x .number) (x .place))) m []) (view-other f v)

@@ -6,19 +6,20 @@ use mathlib.Core.List.{List, [], _∷_}
 use Prim.Native.Nat.{ℕ, _<_}
 use lib.ListN.{length, length-replicate}
 use Rattle.buffer_pool.specs.declared.buffer_pool.BufferPool.{BufferPool}
+use Rattle.buffer_pool.specs.declared.buffer_pool.Answer.the-variants.{Done}
 use Rattle.buffer_pool.specs.declared.buffer_pool.Called.{Called}
 use Rattle.buffer_pool.specs.Moves.{Memories}
-use Rattle.buffer_pool.specs.Soundness.{sound}
-use Rattle.buffer_pool.specs.Steps.{refusal, called, frame, reservation, takeStep}
+use Rattle.buffer_pool.specs.Values.{refusal}
+use Rattle.buffer_pool.specs.Steps.{called, refused, frame, reservation, takeStep}
 use Rattle.buffer_pool.specs.declared.buffer_pool.View.{View}
-use Rattle.buffer_pool.specs.Calls.{Outcome, misfit, new, copiedOut, shown, reservationView}
-use Rattle.buffer_pool.specs.Causes.{TheFrame, TheReservation, Call, Reserve, Commit, Truncate, Take, Release, Look, viewOf}
-use Rattle.book.specs.Events.{Event, Own, Other, Write, State, opened, call, happens, next}
+use Rattle.buffer_pool.specs.Calls.{Outcome, misfit, newOn, new, copiedOut, shown, reservationView}
+use Rattle.buffer_pool.specs.Vocabulary.{TheFrame, TheReservation, Call, Reserve, Commit, Truncate, Take, Release, Look, viewOf, call}
+use Rattle.book.specs.Entries.{Entry, Own, Other, Write, State, opened, lentOther, happens, next}
 use Rattle.book.specs.Book.{Book, emptyBook, noted}
 use Rattle.book.specs.Demand3.{blankMemories, blankCall, calls, Seen, seenAt, seen}
-use Rattle.book.proofs.Plain.{plain, call-own, call-other}
+use Rattle.book.proofs.Plain.{plain, call-other}
 use Rattle.book.proofs.Agrees.{Agrees, agrees-tested, agrees-view, agrees-call, next-agrees}
-use Rattle.book.proofs.Keeps.{long, newOn, new-agrees}
+use Rattle.book.proofs.Keeps.{long, new-agrees}
 
 cons-same : {x y : Seen} {xs ys : List Seen} → x ≡ y → xs ≡ ys → x ∷ xs ≡ y ∷ ys
 cons-same p q = rw (p, q)
@@ -51,17 +52,6 @@ blank-misfit : (r : BufferPool) (m : Memories) → misfit r (blankMemories m) �
 unfolding misfit
 blank-misfit r m = rw (length-replicate {A = ℕ} (length (m .pool)) 0, length-replicate {A = ℕ} (length (m .overflow)) 0)
 
--- a call lent other memories, whatever their lengths
-other-same : (w : ℕ) (r : BufferPool) → sound w r ≡ true → (m : Memories) (c : Call)
-    → call w r m c .call ≡ call w r (blankMemories m) (blankCall c) .call
-other-same w r e m c = go (misfit r m) refl
-  where
-    go : (t : Bool) → misfit r m ≡ t → call w r m c .call ≡ call w r (blankMemories m) (blankCall c) .call
-    go true f = call-other w r m e f c ∙ sym (call-other w r (blankMemories m) e (blank-misfit r m ∙ f) (blankCall c))
-    go false f =
-        ap (λ (o : Outcome). o .call) (call-own w r m e f c) ∙ plain-same w r m (blankMemories m) c
-        ∙ sym (ap (λ (o : Outcome). o .call) (call-own w r (blankMemories m) e (blank-misfit r m ∙ f) (blankCall c)))
-
 -- ---- Every list
 
 module _ (w : ℕ) where
@@ -69,7 +59,7 @@ module _ (w : ℕ) where
   Fine s b = Agrees w (s .pool) (s .lent) b
 
   -- one entry of each of two lists, with the same record and answer
-  entry-seen : (s s′ : State) (b b′ : Book) (e e′ : Event) → Fine s b → Fine s′ b′
+  entry-seen : (s s′ : State) (b b′ : Book) (e e′ : Entry) → Fine s b → Fine s′ b′
       → happens w s e .call ≡ happens w s′ e′ .call → seenAt w (happens w s e) ≡ seenAt w (happens w s′ e′)
   entry-seen s s′ b b′ e e′ G H p =
       seen-plain w (happens w s e) (noted w s b e) (next-agrees w s b G e) ∙ ap plainSeen p
@@ -82,24 +72,44 @@ module _ (w : ℕ) where
       ∙ ap (λ (r : BufferPool). plain w r (s′ .lent) (blankCall c) .call) p
       ∙ sym (ap (λ (o : Outcome). o .call) (agrees-call H (blankCall c)))
 
-  other-call : (s s′ : State) (b : Book) → Fine s b → s .pool ≡ s′ .pool → (m : Memories) (c : Call)
+  -- a call lent other memories is refused by both with 2
+  other-call : (s s′ : State) (b b′ : Book) → Fine s b → Fine s′ b′ → s .pool ≡ s′ .pool → (m : Memories) (c : Call)
       → happens w s (Other m c) .call ≡ happens w s′ (Other (blankMemories m) (blankCall c)) .call
-  other-call s s′ b G p m c =
-      ap (λ (x : Called). called (s .pool) (x .answer)) (other-same w (s .pool) (agrees-tested G) m c)
-      ∙ ap (λ (r : BufferPool). called r (call w r (blankMemories m) (blankCall c) .call .answer)) p
+  other-call s s′ b b′ G H p m c = go (misfit (s .pool) m) refl ∙ ap (λ (t : Bool). other t .call) fits
+    where
+      other : Bool → Outcome
+      other t = lentOther t s′ (call w (s′ .pool) (blankMemories m) (blankCall c))
 
-  seen-same : (es : List Event) (s s′ : State) (b b′ : Book) → Fine s b → Fine s′ b′ → s .pool ≡ s′ .pool
+      fits : misfit (s .pool) m ≡ misfit (s′ .pool) (blankMemories m)
+      fits = ap (λ (r : BufferPool). misfit r m) p ∙ sym (blank-misfit (s′ .pool) m)
+
+      go : (t : Bool) → misfit (s .pool) m ≡ t → lentOther t s (call w (s .pool) m c) .call ≡ other t .call
+      go true f =
+          ap (λ (o : Outcome). o .call) (call-other w (s .pool) m (agrees-tested G) f c) ∙ ap (λ (r : BufferPool). refused r 2) p
+          ∙ sym (ap (λ (o : Outcome). o .call)
+          (call-other w (s′ .pool) (blankMemories m) (agrees-tested H) (sym fits ∙ f) (blankCall c)))
+      go false f = ap (λ (r : BufferPool). called r Done) p
+
+  -- and then the rest of the two lists
+  entry-then : (s s′ : State) (b b′ : Book) (e e′ : Entry) → Fine s b → Fine s′ b′ → happens w s e .call ≡ happens w s′ e′ .call
+      → {xs ys : List Seen} → (next w s e .pool ≡ next w s′ e′ .pool → xs ≡ ys)
+      → seenAt w (happens w s e) ∷ xs ≡ seenAt w (happens w s′ e′) ∷ ys
+  entry-then s s′ b b′ e e′ G H q rest = cons-same (entry-seen s s′ b b′ e e′ G H q) (rest (ap (λ (x : Called). x .pool) q))
+
+  seen-same : (es : List Entry) (s s′ : State) (b b′ : Book) → Fine s b → Fine s′ b′ → s .pool ≡ s′ .pool
       → seen w s es ≡ seen w s′ (calls es)
   unfolding seen calls
   seen-same [] s s′ b b′ G H p = refl
   seen-same (Own c ∷ es) s s′ b b′ G H p =
-      let q = own-call s s′ b b′ G H p c in
-      cons-same (entry-seen s s′ b b′ (Own c) (Own (blankCall c)) G H q)
-      (seen-same es (next w s (Own c)) (next w s′ (Own (blankCall c))) _ _ (next-agrees w s b G (Own c))
-      (next-agrees w s′ b′ H (Own (blankCall c))) (ap (λ (x : Called). x .pool) q))
+      let e = Own c in
+      let e′ = Own (blankCall c) in
+      entry-then s s′ b b′ e e′ G H (own-call s s′ b b′ G H p c)
+      (seen-same es (next w s e) (next w s′ e′) _ _ (next-agrees w s b G e) (next-agrees w s′ b′ H e′))
   seen-same (Other m c ∷ es) s s′ b b′ G H p =
-      cons-same (entry-seen s s′ b b′ (Other m c) (Other (blankMemories m) (blankCall c)) G H (other-call s s′ b G p m c))
-      (seen-same es s s′ b b′ G H p)
+      let e = Other m c in
+      let e′ = Other (blankMemories m) (blankCall c) in
+      entry-then s s′ b b′ e e′ G H (other-call s s′ b b′ G H p m c)
+      (seen-same es (next w s e) (next w s′ e′) _ _ (next-agrees w s b G e) (next-agrees w s′ b′ H e′))
   seen-same (Write v i byte ∷ es) s s′ b b′ G H p =
       seen-same es (next w s (Write v i byte)) s′ _ b′ (next-agrees w s b G (Write v i byte)) H p
 
@@ -110,13 +120,13 @@ module _ (w : ℕ) where
   unfolding new
   new-same m m′ p o =
       let q : long w m ≡ long w m′ = rw (p, o) refl in
-      go (long w m) ∙ ap (λ (t : Bool). newOn w m′ t .call) q
+      go (long w m) ∙ ap (λ (t : Bool). newOn t w m′ .call) q
     where
-      go : (t : Bool) → newOn w m t .call ≡ newOn w m′ t .call
+      go : (t : Bool) → newOn t w m .call ≡ newOn t w m′ .call
       go true = refl
       go false = rw (p, o) refl
 
-  pub seen-alike : (m m′ : Memories) (es es′ : List Event) → 0 < w → refusal (new w m .call .answer) ≡ 0
+  pub seen-alike : (m m′ : Memories) (es es′ : List Entry) → 0 < w → refusal (new w m .call .answer) ≡ 0
       → length (m .pool) ≡ length (m′ .pool) → length (m .overflow) ≡ length (m′ .overflow) → calls es ≡ calls es′
       → seen w (opened w m) es ≡ seen w (opened w m′) es′
   seen-alike m m′ es es′ h u p o e =

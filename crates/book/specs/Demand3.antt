@@ -9,14 +9,14 @@ use Rattle.buffer_pool.specs.declared.buffer_pool.BufferPool.{BufferPool}
 use Rattle.buffer_pool.specs.declared.buffer_pool.Memory.the-variants.{Pool}
 use Rattle.buffer_pool.specs.declared.buffer_pool.Place.{Place}
 use Rattle.buffer_pool.specs.declared.buffer_pool.Answer.{Answer}
-use Rattle.buffer_pool.specs.declared.buffer_pool.Answer.the-variants.{Copied, Refused}
+use Rattle.buffer_pool.specs.Values.{noPlace, noHandle, valued, values}
 use Rattle.buffer_pool.specs.Moves.{Memories, memories}
 use Rattle.buffer_pool.specs.Sound.{Held}
-use Rattle.buffer_pool.specs.Steps.{at, frame, reservation, names}
+use Rattle.buffer_pool.specs.Steps.{refused, at, frame, reservation, names}
 use Rattle.buffer_pool.specs.declared.buffer_pool.View.{View}
-use Rattle.buffer_pool.specs.Calls.{Outcome, misfit, shown, frameView, reservationView, memoryAt, bytesAt}
-use Rattle.buffer_pool.specs.Causes.{Part, TheFrame, TheReservation, TheSlice, Call, Reserve, Commit, Truncate, Take, Release, Look, viewOf}
-use Rattle.book.specs.Events.{Event, Own, Other, Write, State, call, happens, next}
+use Rattle.buffer_pool.specs.Calls.{Outcome, outcome, misfit, shown, frameView, reservationView, bytesAt, Lies}
+use Rattle.buffer_pool.specs.Vocabulary.{Part, TheFrame, TheReservation, TheSlice, Call, Reserve, Commit, Truncate, Take, Release, Look, destinationOf, viewOf, call}
+use Rattle.book.specs.Entries.{Entry, Own, Other, Write, State, happens, next}
 use Rattle.book.specs.Book.{Pair, Book, noted}
 
 -- ---- The first part: the book is kept
@@ -34,7 +34,7 @@ sliceOf x = at Pool (x .handle .start) (x .handle .length)
 abbrev pub Covers : Place → ℕ → Type 0
 Covers p i = (p .memory ≡ Pool) × (p .start ≤ i) × (i < p .start + p .length)
 
--- "Apart: no pool byte in common."
+-- SPECIFICATION 8.3: "no byte of the pool memory in common"
 abbrev pub Apart : Place → Place → Type 0
 Apart p q = (i : ℕ) → Covers p i → Covers q i → ⊥
 
@@ -46,33 +46,36 @@ AllApart (x ∷ pairs) = ((y : Pair) → Member y pairs → Apart (sliceOf x) (s
 -- the view is not refused; it is of this place, which lies inside its memory and holds these bytes
 pub record Shows (w : ℕ) (s : State) (v : Part) (p : Place) (bytes : List ℕ) : Type 0 where
   pub view : viewOf w (s .pool) (s .lent) v ≡ shown p
-  pub inside : p .start + p .length ≤ length (memoryAt (p .memory) (s .lent))
+  pub inside : Lies (s .lent) p
   pub holds : bytesAt (s .lent) p ≡ bytes
 
 -- what holds of record, memories and book, before the first entry and after each
 pub record Kept (w : ℕ) (s : State) (b : Book) : Type 0 where
-  -- "Live: the handle is in the book": such a handle names a live slot, with that slot's start, length and serial, and every
-  -- live slot has its handle in the book
+  -- 8.4, 1: "the handles in the book are those of the live slots, one for each": a handle in the book names a live slot, with
+  -- that slot's start, length and serial, and every live slot has its handle in the book
   pub live : (x : Pair) → Member x (b .pairs) → names w (s .pool) (x .handle) ≡ true
   pub booked : (p : ℕ) → Held w (s .pool .live) p → (x : Pair) × Member x (b .pairs) × (x .handle .slot ≡ p)
-  -- "every live pooled slice lies inside the pool .. and shows exactly the bytes document 01's book has for it"; "frame,
-  -- reservation .. show the book's bytes too"
+  -- 8.4, 2: "every live slice lies inside the pool memory, and the view of its handle shows exactly the bytes that the book has
+  -- for it"; 4: "the views of frame and reservation show F and R"
   pub slices : (x : Pair) → Member x (b .pairs) → Shows w s (TheSlice (x .handle)) (sliceOf x) (x .bytes)
   pub gathered : Shows w s TheFrame (frame (s .pool)) (b .F)
   pub offered : Shows w s TheReservation (reservation (s .pool)) (b .R)
-  -- "apart from every other live slice, frame and reservation"
+  -- 8.4, 3: "live slices are apart from each other, from the frame and from the reservation"
   pub apart : AllApart (b .pairs)
   pub apart-frame : (x : Pair) → Member x (b .pairs) → Apart (sliceOf x) (frame (s .pool))
   pub apart-reservation : (x : Pair) → Member x (b .pairs) → Apart (sliceOf x) (reservation (s .pool))
-  -- "a copied frame, as found when its take returns, is F", whatever destination a take is lent now; "all other destination
-  -- bytes stay"
-  pub copied : (destination : List ℕ) (n : ℕ) → call w (s .pool) (s .lent) (Take destination) .call .answer ≡ Copied n
+  -- 8.4, 5: "a take that copies leaves F at the start of its destination, and the destination's other bytes as they were", whatever
+  -- destination a take is lent now
+  pub copied : (destination : List ℕ) (n : ℕ)
+      → values (call w (s .pool) (s .lent) (Take destination) .call .answer) ≡ valued 0 noPlace noHandle n 0
       → (n ≡ length (b .F)) × (call w (s .pool) (s .lent) (Take destination) .destination ≡ b .F ++ drop n destination)
-  -- "a call lent memories of other lengths is refused with 2", whichever call is made now
-  pub refused-other : (m : Memories) (c : Call) → misfit (s .pool) m ≡ true → call w (s .pool) m c .call .answer ≡ Refused 2
+  -- 8.1, of a call lent "memories of other lengths": "it is refused with 2", whichever call is made now, and changes nothing:
+  -- neither the record nor the memories and the destination that it was lent
+  pub refused-other : (m : Memories) (c : Call) → misfit (s .pool) m ≡ true
+      → call w (s .pool) m c ≡ outcome (refused (s .pool) 2) m (destinationOf c)
 
 -- one statement over the whole list: `Kept` before the first entry and after each
-unfoldable pub Always : ℕ → State → Book → List Event → Type 0
+unfoldable pub Always : ℕ → State → Book → List Entry → Type 0
 Always w s b [] = Kept w s b
 Always w s b (e ∷ es) = Kept w s b × Always w (next w s e) (noted w s b e) es
 
@@ -93,9 +96,9 @@ blankCall (Take destination) = Take (blank destination)
 blankCall (Release h) = Release h
 blankCall (Look v) = Look v
 
--- the calls of a list, every lent byte made 0 and the writes left out: two lists are "alike in calls, handles and lengths" if
--- these are equal
-unfoldable pub calls : List Event → List Event
+-- the calls of a list, every lent byte made 0 and the writes left out: two lists are, by 8.5, "alike in calls, handles and lengths"
+-- if these are equal
+unfoldable pub calls : List Entry → List Entry
 calls [] = []
 calls (Own c ∷ es) = Own (blankCall c) ∷ calls es
 calls (Other m c ∷ es) = Other (blankMemories m) (blankCall c) ∷ calls es
@@ -118,8 +121,8 @@ seenAt w o =
       reservation = reservationView w (o .call .pool) (o .memory);
     }
 
--- what is seen "at every call" of a list
-unfoldable pub seen : ℕ → State → List Event → List Seen
+-- what is seen, by 8.5, "at every call" of a list
+unfoldable pub seen : ℕ → State → List Entry → List Seen
 seen w s [] = []
 seen w s (Own c ∷ es) = seenAt w (happens w s (Own c)) ∷ seen w (next w s (Own c)) es
 seen w s (Other m c ∷ es) = seenAt w (happens w s (Other m c)) ∷ seen w (next w s (Other m c)) es

@@ -1,3 +1,3 @@
-pub mod Events
+pub mod Entries
 pub mod Book
 pub mod Demand3

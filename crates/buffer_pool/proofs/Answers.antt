@@ -1,6 +1,6 @@
 -- A call that is not refused answers with a result of its own: past 1 and 2 its answer is its step's, and of each step's answers
 -- all but the refusals are such results. Assumes nothing.
-use mathlib.Core.Path.{_≡_, refl}
+use mathlib.Core.Path.{_≡_, refl, sym, ap, _∙_}
 use mathlib.Core.Bool.{Bool, true, false, not}
 use mathlib.Core.List.{List, []}
 use mathlib.Core.Logic.{inl, inr}
@@ -14,17 +14,31 @@ use Rattle.buffer_pool.specs.declared.slice.Handle.{Handle}
 use Rattle.buffer_pool.specs.declared.buffer_pool.BufferPool.{BufferPool}
 use Rattle.buffer_pool.specs.declared.buffer_pool.PoolMode.{PoolMode}
 use Rattle.buffer_pool.specs.declared.buffer_pool.PoolMode.the-variants.{Back, Front, Alloc}
-use Rattle.buffer_pool.specs.declared.buffer_pool.Answer.the-variants.{Done}
+use Rattle.buffer_pool.specs.declared.buffer_pool.Place.{Place}
+use Rattle.buffer_pool.specs.declared.buffer_pool.View.{View}
 use Rattle.buffer_pool.specs.declared.buffer_pool.Called.{Called}
 use Rattle.buffer_pool.specs.Moves.{Memories}
 use Rattle.buffer_pool.specs.Placing.{place, tooLong}
 use Rattle.buffer_pool.specs.Soundness.{sound}
-use Rattle.buffer_pool.specs.Steps.{refusal, refused, frame, reserveOn, reserveStep, commitStep, truncateStep, mostSerials, takeOn, takeStep, names, releaseStep}
-use Rattle.buffer_pool.specs.Calls.{Outcome, outcome, misfit, guardedCall, reserve, commit, truncate, copiedOut, take, release}
-use Rattle.buffer_pool.specs.Causes.{Call, Reserve, Commit, Truncate, Take, Release, Look, viewOf, told, outcomeOf, numberOf, Result}
+use Rattle.buffer_pool.specs.Values.{refusal, values}
+use Rattle.buffer_pool.specs.Steps.{refused, frame, reserveOn, reserveStep, commitStep, truncateStep, mostSerials, nextHandle, takeOn, takeStep, names, releaseStep}
+use Rattle.buffer_pool.specs.Calls.{Outcome, outcome, misfit, guarded, guardedCall, reserve, commit, truncate, copiedOut, take, release, shown, hidden, frameView, reservationView, sliceView}
+use Rattle.buffer_pool.specs.Vocabulary.{Part, TheFrame, TheReservation, TheSlice, Call, Reserve, Commit, Truncate, Take, Release, Look, viewOf, viewAnswer, call, numberOf, doneUnless, partOf, Result}
 
 abbrev Answers : Call → Called → Type 0
-Answers call c = refusal (c .answer) ≡ 0 → Result call c
+Answers c called = refusal (called .answer) ≡ 0 → Result c called
+
+-- a view's answer tells its number
+pub view-number : (n : ℕ) (place : Place) → refusal (viewAnswer n place) ≡ n
+unfolding viewAnswer refusal
+view-number zero place = refl
+view-number (suc n) place = refl
+
+-- and so does a write's
+pub write-number : (n : ℕ) → refusal (doneUnless n) ≡ n
+unfolding refusal
+write-number zero = refl
+write-number (suc n) = refl
 
 module _ (w : ℕ) (r : BufferPool) where
   reserve-answers : (len : ℕ) → Answers (Reserve len) (reserveStep w r len)
@@ -51,9 +65,9 @@ module _ (w : ℕ) (r : BufferPool) where
       go : (z long spent : Bool) (mode : PoolMode) → Answers (Take destination) (takeOn z long spent mode w r)
       go true long spent mode u = inr (0, refl)
       go false long true Back u = absurd (omega (arith, u))
-      go false long false Back u = inl (_, refl)
+      go false long false Back u = inl (nextHandle r, omega arith, refl)
       go false long true (Front f) u = absurd (omega (arith, u))
-      go false long false (Front f) u = inl (_, refl)
+      go false long false (Front f) u = inl (nextHandle r, omega arith, refl)
       go false true spent Alloc u = absurd (omega (arith, u))
       go false false spent Alloc u = inr (_, refl)
 
@@ -62,28 +76,45 @@ module _ (w : ℕ) (r : BufferPool) where
   release-answers h = pick-cases (Answers (Release h)) (names w r h) (λ e u. refl) (λ e u. absurd (omega (arith, u)))
 
   module _ (m : Memories) where
-    guarded-answers : (call : Call) (destination : List ℕ) (o : Outcome) → Answers call (o .call)
-        → Answers call (guardedCall w r m destination o .call)
+    guarded-answers : (c : Call) (destination : List ℕ) (o : Outcome) → Answers c (o .call)
+        → Answers c (guardedCall w r m destination o .call)
     unfolding refusal
-    guarded-answers call destination o k = go (sound w r) (misfit r m)
+    guarded-answers c destination o k = go (sound w r) (misfit r m)
       where
         refuse : ℕ → Outcome
         refuse n = outcome (refused r n) m destination
 
-        go : (a b : Bool) → Answers call (pick (not a) (refuse 1) (pick b (refuse 2) o) .call)
+        go : (a b : Bool) → Answers c (pick (not a) (refuse 1) (pick b (refuse 2) o) .call)
         go false b u = absurd (omega (arith, u))
         go true true u = absurd (omega (arith, u))
         go true false u = k u
 
-    pub call-answers : (call : Call) → numberOf w r m call ≡ 0 → Result call (outcomeOf w r m call .call)
-    unfolding numberOf outcomeOf reserve commit truncate take copiedOut release told refusal Result
+    -- a view that is not refused shows its part
+    abbrev Shows : Part → View → Type 0
+    Shows part v = v .number ≡ 0 → v ≡ shown (partOf part r)
+
+    guarded-shows : (part : Part) (v : View) → Shows part v → Shows part (guarded w r m hidden v)
+    guarded-shows part v k = go (sound w r) (misfit r m)
+      where
+        go : (a b : Bool) → Shows part (pick (not a) (hidden 1) (pick b (hidden 2) v))
+        go false b u = absurd (omega (arith, u))
+        go true true u = absurd (omega (arith, u))
+        go true false u = k u
+
+    view-shows : (part : Part) → Shows part (viewOf w r m part)
+    unfolding viewOf frameView reservationView sliceView
+    view-shows TheFrame = guarded-shows TheFrame _ (λ u. refl)
+    view-shows TheReservation = guarded-shows TheReservation _ (λ u. refl)
+    view-shows (TheSlice h) =
+        guarded-shows (TheSlice h) _ (pick-cases (Shows (TheSlice h)) (names w r h) (λ e u. refl) (λ e u. absurd (omega (arith, u))))
+
+    pub call-answers : (c : Call) → numberOf w r m c ≡ 0 → Result c (call w r m c .call)
+    unfolding numberOf call reserve commit truncate take copiedOut release viewAnswer Result
     call-answers (Reserve len) = guarded-answers (Reserve len) [] _ (reserve-answers len)
     call-answers (Commit n) = guarded-answers (Commit n) [] _ (commit-answers n)
     call-answers (Truncate n) = guarded-answers (Truncate n) [] _ (truncate-answers n)
     call-answers (Take destination) = guarded-answers (Take destination) destination _ (take-answers destination)
     call-answers (Release h) = guarded-answers (Release h) [] _ (release-answers h)
-    call-answers (Look part) = go (viewOf w r m part .number)
-      where
-        go : (n : ℕ) → refusal (told n) ≡ 0 → told n ≡ Done
-        go zero u = refl
-        go (suc n) u = absurd (omega (arith, u))
+    call-answers (Look part) = λ u.
+        ap (λ (v : View). values (viewAnswer (v .number) (v .place)))
+        (view-shows part (sym (view-number (viewOf w r m part .number) (viewOf w r m part .place)) ∙ u))

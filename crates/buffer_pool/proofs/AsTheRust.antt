@@ -1,13 +1,12 @@
--- Over every sequence of calls and writes from a new pool, what our pool shows is what the Rust's shows: every event that we
+-- Over every sequence of calls and writes from a new pool, what our pool shows is what the Rust's shows: every action that we
 -- accept keeps the two joined and gives the same, a refused one leaves ours as it was, and joined pools show the same. Assumes
 -- nothing.
 use mathlib.Core.Path.{_≡_, refl, sym, ap, _∙_, subst}
 use mathlib.Core.Bool.{Bool, true, false, _||_}
 use mathlib.Core.List.{List, [], _∷_, map}
-use mathlib.Core.Logic.{_⊎_, inl, inr}
 use Prim.Native.Nat.{ℕ, zero, suc, _<_}
 use native.Mathlib.Omega.{arith}
-use borrow.Author.Tests.{ltb-false, le-ltb}
+use borrow.Author.Tests.{ltb-false}
 use lib.Dec.{ltb, eqb}
 use lib.ListN.{length}
 use Rattle.laws.specs.Tests.{pick}
@@ -16,63 +15,39 @@ use Rattle.laws.proofs.Tests.{either-false, pick-cases}
 use Rattle.buffer_pool.specs.declared.slice.Handle.{Handle}
 use Rattle.buffer_pool.specs.declared.buffer_pool.BufferPool.{BufferPool}
 use Rattle.buffer_pool.specs.declared.buffer_pool.Place.{Place}
-use Rattle.buffer_pool.specs.declared.buffer_pool.Answer.{Answer}
-use Rattle.buffer_pool.specs.declared.buffer_pool.Answer.the-variants.{Done, Reserved, Framed, Taken, Copied, Refused}
 use Rattle.buffer_pool.specs.declared.buffer_pool.Called.{Called}
 use Rattle.buffer_pool.specs.Record.{byteLimit}
 use Rattle.buffer_pool.specs.Moves.{Memories}
 use Rattle.buffer_pool.specs.Soundness.{sound}
-use Rattle.buffer_pool.specs.Steps.{refusal, reserveStep, commitStep, truncateStep, takeStep, names, releaseStep}
+use Rattle.buffer_pool.specs.Values.{noHandle, Values, valued, values, refusal}
+use Rattle.buffer_pool.specs.Steps.{reserveStep, commitStep, truncateStep, takeStep, names, releaseStep}
 use Rattle.buffer_pool.specs.declared.buffer_pool.View.{View}
 use Rattle.buffer_pool.specs.Calls.{Outcome, new, reserve, commit, truncate, copiedOut, take as taken, release, written}
 use Rattle.buffer_pool.specs.Rust.{Run, done, with, RustPool}
-use Rattle.buffer_pool.specs.AsRust.{Stands, Unrefused, replyOf, sliceOf, rustWritten}
-use Rattle.buffer_pool.specs.Causes.{Part, Call, Reserve, Commit, Truncate, Take, Release, Look, outcomeOf, numberOf, Result}
-use Rattle.buffer_pool.specs.Together.{Event, Make, Write, Seen, Given, Nothing, Offer, Whole, Sliced, Viewed, Ours, ours, view, number, holding, without, letGo, heldAfter, step, givenBy, given, shownBy, unlessRefused, accepted, shows, Holder, Theirs, theirs, rustFrame, rustHolding, rustWithout, did, rustCall, rustStep, rustShows, ourStart, rustStart}
+use Rattle.buffer_pool.specs.AsRust.{Stands, Unrefused, sliceIn, sliceOf, rustWritten}
+use Rattle.buffer_pool.specs.Vocabulary.{Part, Call, Reserve, Commit, Truncate, Take, Release, Look, call, numberOf, Result}
+use Rattle.buffer_pool.specs.Together.{Action, Make, Write, Seen, Given, Whole, Viewed, Ours, ours, view, number, holdingIn, holding, without, letGo, heldAfter, step, given, shownBy, unlessRefused, accepted, shows, Holder, Theirs, theirs, rustFrame, rustHolding, rustWithout, did, rustCall, rustStep, rustShows, ourStart, rustStart}
 use Rattle.buffer_pool.proofs.SoundKept.{sound-new, sound-kept, Reserve as ReserveStep, Commit as CommitStep, Truncate as TruncateStep, Take as TakeStep, Release as ReleaseStep}
 use Rattle.buffer_pool.proofs.RustCalls.{written-agrees, new-as-rust, reserve-as-rust, commit-as-rust, truncate-as-rust, take-as-rust, release-as-rust}
-use Rattle.buffer_pool.proofs.RefusedKeeps.{refused-keeps, refused-view}
-use Rattle.buffer_pool.proofs.OnlyForCause.{told-is}
-use Rattle.buffer_pool.proofs.Answers.{call-answers}
+use Rattle.buffer_pool.proofs.RefusedKeeps.{refused-keeps, refused-written}
+use Rattle.buffer_pool.proofs.Answers.{view-number, write-number, call-answers}
 use Rattle.buffer_pool.proofs.Handles.{Named, names-use, Holds, new-holds, reserve-holds, commit-holds, truncate-holds, take-holds, release-holds}
 use Rattle.buffer_pool.proofs.Joined.{holderOf, Joined, frame-place, joined-orderly, joined-fits, slice-part, part-seen, part-agrees, shown-agrees}
 
--- ---- What the Rust gives, by our answer
+-- ---- What we give
 
-offer-given : {a : Answer} {place : Place} {changes : ℕ} → a ≡ Reserved place changes → (q : RustPool) (held : List Holder)
-    → did (Offer (replyOf a q .writable) (replyOf a q .changes)) (replyOf a q .left) held ≡ did (givenBy a []) q held
-unfolding givenBy
-offer-given e q held =
-    subst
-    (λ (a : Answer). did (Offer (replyOf a q .writable) (replyOf a q .changes)) (replyOf a q .left) held ≡ did (givenBy a []) q held)
-    (sym e) refl
-
-frame-given : {a : Answer} {place : Place} → a ≡ Framed place → Whole place ≡ givenBy a []
-unfolding givenBy
-frame-given e = ap (λ (a : Answer). givenBy a []) (sym e)
-
-slice-given : (a : Answer) (destination : List ℕ) → ((h : Handle) × (a ≡ Taken h)) ⊎ ((n : ℕ) × (a ≡ Copied n))
-    → Sliced (sliceOf a destination) ≡ givenBy a destination
-unfolding givenBy
-slice-given a destination (inl t) =
-    subst (λ (a : Answer). Sliced (sliceOf a destination) ≡ givenBy a destination) (sym (t .1)) refl
-slice-given a destination (inr t) =
-    subst (λ (a : Answer). Sliced (sliceOf a destination) ≡ givenBy a destination) (sym (t .1)) refl
-
-nothing-given : {a : Answer} → a ≡ Done → Nothing ≡ givenBy a []
-unfolding givenBy
-nothing-given e = ap (λ (a : Answer). givenBy a []) (sym e)
+frame-given : {v : Values} {place : Place} → v ≡ valued 0 place noHandle 0 0 → Whole place ≡ Whole (v .place)
+frame-given e = ap (λ (v : Values). Whole (v .place)) (sym e)
 
 -- ---- The slices held
 
-taken-held : (a : Answer) (destination : List ℕ) (held : List Handle)
-    → rustHolding (sliceOf a destination) (map holderOf held) ≡ map holderOf (holding a held)
-taken-held Done destination held = refl
-taken-held (Reserved place changes) destination held = refl
-taken-held (Framed place) destination held = refl
-taken-held (Taken h) destination held = refl
-taken-held (Copied n) destination held = refl
-taken-held (Refused n) destination held = refl
+taken-held : (v : Values) (destination : List ℕ) (held : List Handle)
+    → rustHolding (sliceOf v destination) (map holderOf held) ≡ map holderOf (holding v held)
+taken-held v destination held = go (v .handle .slot)
+  where
+    go : (k : ℕ) → rustHolding (sliceIn k v destination) (map holderOf held) ≡ map holderOf (holdingIn k (v .handle) held)
+    go zero = refl
+    go (suc k) = refl
 
 released-held : (slot : ℕ) (held : List Handle) → rustWithout slot (map holderOf held) ≡ map holderOf (without slot held)
 unfolding rustWithout without
@@ -95,18 +70,18 @@ module _ (w : ℕ) (s : Ours) (t : Theirs) (J : Joined w s t) where
   abbrev p : RustPool
   p = t .pool
 
-  -- ---- The events that we accept
+  -- ---- The actions that we accept
 
   -- the Rust gives what we give, and the pools stay joined
-  record Follows (e : Event) : Type 0 where
+  record Follows (e : Action) : Type 0 where
     left : Theirs
     run-is : rustStep w t e ≡ done (record { given = given w s e; left = left })
     joined : Joined w (step w s e) left
 
   look-follows : (part : Part) → numberOf w r m (Look part) ≡ 0 → Follows (Make (Look part))
-  unfolding numberOf outcomeOf rustStep rustCall step given
+  unfolding numberOf call rustStep rustCall step given
   look-follows part u =
-      let A = part-agrees w s t J part (sym (told-is (view w s part .number)) ∙ u) in
+      let A = part-agrees w s t J part (sym (view-number (view w s part .number) (view w s part .place)) ∙ u) in
       record {
         left = t;
         run-is =
@@ -135,24 +110,24 @@ module _ (w : ℕ) (s : Ours) (t : Theirs) (J : Joined w s t) where
 
   -- ---- The calls: each is its step
 
-  reserve-call : (len : ℕ) → outcomeOf w r m (Reserve len) .call ≡ reserveStep w r len
-  unfolding outcomeOf reserve
+  reserve-call : (len : ℕ) → call w r m (Reserve len) .call ≡ reserveStep w r len
+  unfolding call reserve
   reserve-call len = rw (J .sound-is, joined-fits w s t J) refl
 
-  commit-call : (n : ℕ) → outcomeOf w r m (Commit n) .call ≡ commitStep r n
-  unfolding outcomeOf commit
+  commit-call : (n : ℕ) → call w r m (Commit n) .call ≡ commitStep r n
+  unfolding call commit
   commit-call n = rw (J .sound-is, joined-fits w s t J) refl
 
-  truncate-call : (n : ℕ) → outcomeOf w r m (Truncate n) .call ≡ truncateStep r n
-  unfolding outcomeOf truncate
+  truncate-call : (n : ℕ) → call w r m (Truncate n) .call ≡ truncateStep r n
+  unfolding call truncate
   truncate-call n = rw (J .sound-is, joined-fits w s t J) refl
 
-  take-call : (destination : List ℕ) → outcomeOf w r m (Take destination) .call ≡ takeStep w r (length destination)
-  unfolding outcomeOf taken copiedOut
+  take-call : (destination : List ℕ) → call w r m (Take destination) .call ≡ takeStep w r (length destination)
+  unfolding call taken copiedOut
   take-call destination = rw (J .sound-is, joined-fits w s t J) refl
 
-  release-call : (h : Handle) → outcomeOf w r m (Release h) .call ≡ releaseStep w r h
-  unfolding outcomeOf release
+  release-call : (h : Handle) → call w r m (Release h) .call ≡ releaseStep w r h
+  unfolding call release
   release-call h = rw (J .sound-is, joined-fits w s t J) refl
 
   -- and leaves the two joined, with these handles held after it
@@ -168,19 +143,19 @@ module _ (w : ℕ) (s : Ours) (t : Theirs) (J : Joined w s t) where
       }
 
   reserve-follows : (len : ℕ) → numberOf w r m (Reserve len) ≡ 0 → Follows (Make (Reserve len))
-  unfolding numberOf outcomeOf Result rustStep rustCall step given
+  unfolding numberOf call Result rustStep rustCall step given
   reserve-follows len u =
       let L = reserve-as-rust w r m p (J .stands) 0 len u in
       record {
         left = theirs (L .left) (t .held);
-        run-is = rw (L .run-is) (ap done (offer-given (call-answers w r m (Reserve len) u .1) (L .left) (t .held)));
+        run-is = rw (L .run-is) refl;
         joined =
             call-joined (λ c. s .held) (reserve-call len) (sound-kept w r (ReserveStep len) (J .sound-is))
             (reserve-holds w r (s .held) (J .holds) len) (L .holds) (J .held-is);
       }
 
   commit-follows : (n : ℕ) → numberOf w r m (Commit n) ≡ 0 → Follows (Make (Commit n))
-  unfolding numberOf outcomeOf Result rustStep rustCall step given
+  unfolding numberOf call Result rustStep rustCall step given
   commit-follows n u =
       let L = commit-as-rust w r m p (J .stands) n u in
       record {
@@ -195,7 +170,7 @@ module _ (w : ℕ) (s : Ours) (t : Theirs) (J : Joined w s t) where
       }
 
   truncate-follows : (n : ℕ) → numberOf w r m (Truncate n) ≡ 0 → Follows (Make (Truncate n))
-  unfolding numberOf outcomeOf Result rustStep rustCall step given
+  unfolding numberOf call Result rustStep rustCall step given
   truncate-follows n u =
       let L = truncate-as-rust w r m p (J .stands) n u in
       record {
@@ -210,22 +185,20 @@ module _ (w : ℕ) (s : Ours) (t : Theirs) (J : Joined w s t) where
       }
 
   take-follows : (destination : List ℕ) → numberOf w r m (Take destination) ≡ 0 → Follows (Make (Take destination))
-  unfolding numberOf outcomeOf Result rustStep rustCall step given
+  unfolding numberOf call Result rustStep rustCall step given
   take-follows destination u =
       let o = taken w r m destination in
       let L = take-as-rust w r m p (J .stands) destination u in
-      let slice = sliceOf (o .call .answer) (o .destination) in
+      let said = values (o .call .answer) in
+      let slice = sliceOf said (o .destination) in
       record {
         left = theirs (L .left) (rustHolding slice (t .held));
-        run-is =
-            rw (L .run-is)
-            (ap (λ (g : Given). done (did g (L .left) (rustHolding slice (t .held))))
-            (slice-given (o .call .answer) (o .destination) (call-answers w r m (Take destination) u)));
+        run-is = rw (L .run-is) refl;
         joined =
-            call-joined (λ c. holding (c .answer) (s .held)) (take-call destination)
+            call-joined (λ c. holding (values (c .answer)) (s .held)) (take-call destination)
             (sound-kept w r (TakeStep (length destination)) (J .sound-is))
             (take-holds w r (s .held) (J .holds) (length destination) (joined-orderly w s t J)) (L .holds)
-            (ap (rustHolding slice) (J .held-is) ∙ taken-held (o .call .answer) (o .destination) (s .held));
+            (ap (rustHolding slice) (J .held-is) ∙ taken-held said (o .destination) (s .held));
       }
 
   -- a handle that is released names a slice, which is held
@@ -236,24 +209,21 @@ module _ (w : ℕ) (s : Ours) (t : Theirs) (J : Joined w s t) where
       (λ e u. absurd (omega (arith, u)))
 
   release-follows : (h : Handle) → numberOf w r m (Release h) ≡ 0 → Follows (Make (Release h))
-  unfolding numberOf outcomeOf Result rustStep rustCall step given
+  unfolding numberOf call Result rustStep rustCall step given
   release-follows h u =
       let L = release-as-rust w r m p (J .stands) h u in
       let e = release-call h in
       let N = released-named h (subst (λ (c : Called). refusal (c .answer) ≡ 0) e u) in
       record {
         left = theirs (L .left) (rustWithout (h .slot) (t .held));
-        run-is =
-            rw (slice-part w s t J h N .rust-is, L .run-is)
-            (ap (λ (g : Given). done (did g (L .left) (rustWithout (h .slot) (t .held))))
-            (nothing-given (call-answers w r m (Release h) u)));
+        run-is = rw (slice-part w s t J h N .rust-is, L .run-is) refl;
         joined =
             call-joined (λ c. letGo (refusal (c .answer)) (h .slot) (s .held)) e (sound-kept w r (ReleaseStep h) (J .sound-is))
             (release-holds w r (s .held) (J .holds) h) (L .holds)
             (rw u (ap (rustWithout (h .slot)) (J .held-is) ∙ released-held (h .slot) (s .held)));
       }
 
-  follows : (e : Event) → number w s e ≡ 0 → Follows e
+  follows : (e : Action) → number w s e ≡ 0 → Follows e
   unfolding number
   follows (Make (Reserve len)) u = reserve-follows len u
   follows (Make (Commit n)) u = commit-follows n u
@@ -261,16 +231,16 @@ module _ (w : ℕ) (s : Ours) (t : Theirs) (J : Joined w s t) where
   follows (Make (Take destination)) u = take-follows destination u
   follows (Make (Release h)) u = release-follows h u
   follows (Make (Look part)) u = look-follows part u
-  follows (Write part i byte) u = write-follows part i byte u
+  follows (Write part i byte) u = write-follows part i byte (sym (write-number (view w s part .number)) ∙ u)
 
--- ---- An event that we refuse leaves ours as it was
+-- ---- An action that we refuse leaves ours as it was
 
 held-stays : (w : ℕ) (s : Ours) (c : Call) → 0 < numberOf w (s .pool) (s .memory) c → heldAfter w s c ≡ s .held
 held-stays w s (Reserve len) h = refl
 held-stays w s (Commit n) h = refl
 held-stays w s (Truncate n) h = refl
 held-stays w s (Take destination) h =
-    ap (λ (o : Outcome). holding (o .call .answer) (s .held)) (refused-keeps w (s .pool) (s .memory) (Take destination) h)
+    ap (λ (o : Outcome). holding (values (o .call .answer)) (s .held)) (refused-keeps w (s .pool) (s .memory) (Take destination) h)
 held-stays w s (Release h) k = go (numberOf w (s .pool) (s .memory) (Release h)) k
   where
     go : (n : ℕ) → 0 < n → letGo n (h .slot) (s .held) ≡ s .held
@@ -278,21 +248,21 @@ held-stays w s (Release h) k = go (numberOf w (s .pool) (s .memory) (Release h))
     go (suc n) l = refl
 held-stays w s (Look part) h = refl
 
-stays : (w : ℕ) (s : Ours) (e : Event) → 0 < number w s e → step w s e ≡ s
-unfolding number step written
+stays : (w : ℕ) (s : Ours) (e : Action) → 0 < number w s e → step w s e ≡ s
+unfolding number step
 stays w s (Make c) h =
     ap (λ (o : Outcome). ours (o .call .pool) (o .memory) (heldAfter w s c)) (refused-keeps w (s .pool) (s .memory) c h)
     ∙ ap (λ (held : List Handle). ours (s .pool) (s .memory) held) (held-stays w s c h)
 stays w s (Write part i byte) h =
-    ap (λ (v : View). ours (s .pool) (written (s .memory) (v .place) i byte) (s .held)) (refused-view w (s .pool) (s .memory) part h)
-    ∙ rw (le-ltb i 0 (omega arith)) refl
+    ap (λ (m : Memories). ours (s .pool) m (s .held))
+    (refused-written w (s .pool) (s .memory) part i byte (omega (arith, write-number (view w s part .number))))
 
 -- ---- The sequence
 
-Shows : (w : ℕ) → List Event → Ours → Theirs → Type 0
+Shows : (w : ℕ) → List Action → Ours → Theirs → Type 0
 Shows w es s t = rustShows w t (accepted w s es) ≡ done (shows w s es)
 
-joined-shows : (w : ℕ) (es : List Event) (s : Ours) (t : Theirs) → Joined w s t → Shows w es s t
+joined-shows : (w : ℕ) (es : List Action) (s : Ours) (t : Theirs) → Joined w s t → Shows w es s t
 unfolding Shows rustShows accepted shows
 joined-shows w [] s t J = refl
 joined-shows w (e ∷ es) s t J = go (number w s e) refl (joined-shows w es)
@@ -326,8 +296,8 @@ start-joined w m l u =
 -- ---- The theorem
 
 -- from a new pool of any capacities within the limit and any bytes in the overflow, whatever is called and written: the Rust, given
--- the events that we do not refuse, does not panic, and shows at each of them what we show
-pub as-the-rust : (w : ℕ) (m : Memories) (es : List Event) → 0 < w → Unrefused (new w m)
+-- the actions that we do not refuse, does not panic, and shows at each of them what we show
+pub as-the-rust : (w : ℕ) (m : Memories) (es : List Action) → 0 < w → Unrefused (new w m)
     → rustShows w (rustStart w m) (accepted w (ourStart w m) es) ≡ done (shows w (ourStart w m) es)
 unfolding Shows
 as-the-rust w m es l u = joined-shows w es (ourStart w m) (rustStart w m) (start-joined w m l u)

@@ -1,17 +1,16 @@
 -- The tests and records of the back, from what the code of pool_back.rt knows where it returns. Assumes nothing.
-use mathlib.Core.Path.{_≡_, refl, sym, ap, ap₂, _∙_}
-use mathlib.Core.Bool.{Bool, true, false, not, _&&_}
-use Prim.Native.Nat.{ℕ, zero, suc, _+_, _-_, _≤_, _<_, min, max}
+use mathlib.Core.Path.{_≡_, ap, ap₂, _∙_}
+use mathlib.Core.Bool.{Bool, true, false, not}
+use Prim.Native.Nat.{ℕ, _+_, _-_, _≤_, _<_, max}
 use native.Mathlib.Omega.{arith}
 use borrow.Author.Tests.{lt-ltb, le-ltb, lt-leb, le-leb, eq-eqb, ne-eqb, leb-true, eqb-true}
-use lib.Dec.{leb, ltb, eqb}
+use lib.Dec.{leb, eqb}
 use lib.Count.{leadingZeros, trailingZeros}
 use lib.ListN.{getD}
 use Rattle.laws.specs.Live.{lastLive}
-use Rattle.laws.proofs.Tests.{both-true, no-true, not-true, not-false}
+use Rattle.laws.proofs.Tests.{both-true, not-true, not-false}
 use Rattle.buffer_pool.specs.declared.buffer_pool.BufferPool.{BufferPool}
-use Rattle.buffer_pool.specs.declared.buffer_pool.PoolMode.the-variants.{Back, Front}
-use Rattle.buffer_pool.specs.declared.placing.Cleared.{Cleared}
+use Rattle.buffer_pool.specs.declared.buffer_pool.PoolMode.the-variants.{Back}
 use Rattle.buffer_pool.specs.Record.{after, placed, front}
 use Rattle.buffer_pool.specs.Placing.{drops, clearable, tailStart, tailFits, tailCleared, headFits, headClearedTo, headCleared}
 use Rattle.buffer_pool.specs.Deciding.{clearedOn}

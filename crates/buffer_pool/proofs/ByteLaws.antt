@@ -1,12 +1,12 @@
 -- What a turn of each byte loop of inner_memory.rt does, and what its end leaves, from what the loop knows. Assumes nothing.
 use mathlib.Core.Path.{_≡_, refl, sym, ap, _∙_}
-use mathlib.Core.List.{List, [], _∷_, _++_, append-assoc, append-nil}
+use mathlib.Core.List.{List, _∷_, _++_, append-assoc, append-nil}
 use Prim.Native.Nat.{ℕ, zero, suc, _+_, _-_, _≤_, _<_}
 use native.Mathlib.Numerals.{add-one}
 use native.Mathlib.Nat.{sub-self, sub-zero, add-zero}
 use native.Mathlib.Omega.{arith}
-use lib.ListN.{length, take, drop, getD, set, replicate, length-append, length-take, length-drop, length-replicate, take-append-drop, List·getD-append}
-use lib.Seq.{paste, paste-zero, paste-suc, drop-paste, length-paste, length-paste-head, length-take-le, getD-drop, getD-take, drop-cons, take-suc, set-at}
+use lib.ListN.{length, take, drop, getD, set, replicate, length-append, length-drop, length-replicate, take-append-drop, List·getD-append}
+use lib.Seq.{paste, paste-zero, paste-suc, drop-paste, length-take-le, getD-drop, getD-take, drop-cons, take-suc, set-at}
 use Rattle.laws.specs.Lists.{part, copied, moved, zeroed}
 
 -- ---- A copy between two lists

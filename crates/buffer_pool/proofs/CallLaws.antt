@@ -1,7 +1,7 @@
 -- The calls, from what the code of calls.rt knows where it returns: what turns every call away, then the call's own. Assumes nothing.
 use mathlib.Core.Path.{_≡_, refl, sym, ap, _∙_, subst}
-use mathlib.Core.Bool.{Bool, true, false, not, _&&_, _||_}
-use mathlib.Core.List.{List, [], _∷_, _++_, append-nil}
+use mathlib.Core.Bool.{Bool, true, false, not, _&&_}
+use mathlib.Core.List.{List, [], append-nil}
 use Prim.Native.Nat.{ℕ, zero, suc, _+_, _-_, _≤_, _<_}
 use native.Mathlib.Nat.{le-refl, sub-zero}
 use native.Mathlib.Omega.{arith}
@@ -18,18 +18,19 @@ use Rattle.buffer_pool.specs.declared.buffer_pool.BufferPool.{BufferPool
 use Rattle.buffer_pool.specs.declared.buffer_pool.PoolMode.{PoolMode}
 use Rattle.buffer_pool.specs.declared.buffer_pool.PoolMode.the-variants.{Back, Front, Alloc}
 use Rattle.buffer_pool.specs.declared.buffer_pool.Place.{Place}
-use Rattle.buffer_pool.specs.declared.buffer_pool.Answer.the-variants.{Done, Reserved, Refused}
+use Rattle.buffer_pool.specs.declared.buffer_pool.Answer.the-variants.{Done, Reserved}
 use Rattle.buffer_pool.specs.declared.buffer_pool.Called.{Called}
 use Rattle.buffer_pool.specs.declared.placing.Decided.{Decided}
 use Rattle.buffer_pool.specs.Record.{byteLimit, newRecord, placed}
 use Rattle.buffer_pool.specs.Moves.{Memories, memories, act, perform, allInside}
 use Rattle.buffer_pool.specs.MoveList.{listed}
-use Rattle.buffer_pool.specs.Placing.{Decision, stays, isAlloc, resets, place, tooLong}
+use Rattle.buffer_pool.specs.Placing.{Decision, isAlloc, resets, place, tooLong}
 use Rattle.buffer_pool.specs.Deciding.{frontLen, Placeable, Decides, decisionOf, keepsIn, fitsIn, settled, startsOver, growing, keptTo, offered}
 use Rattle.buffer_pool.specs.Soundness.{sound}
 use Rattle.buffer_pool.specs.Sound.{Orderly, InMode}
-use Rattle.buffer_pool.specs.Steps.{refusal, called, refused, at, frameOf, reservation, reserved, pooled, takeOn, takeStep, mostSerials, copiedLength, takeMoves, reserveOn, reserveStep, commitStep, truncateStep, releaseStep}
-use Rattle.buffer_pool.specs.Calls.{Outcome, outcome, misfit, guarded, numbered, cause, guardedCall, new, reserve, commit, truncate, copiedOut, take, release}
+use Rattle.buffer_pool.specs.Values.{refusal, values}
+use Rattle.buffer_pool.specs.Steps.{called, refused, at, frameOf, reservation, reserved, pooled, takeOn, takeStep, mostSerials, takeMoves, reserveOn, reserveStep, commitStep, truncateStep, releaseStep}
+use Rattle.buffer_pool.specs.Calls.{Outcome, outcome, misfit, numbered, cause, guardedCall, new, reserve, commit, truncate, copiedOut, take, release}
 use Rattle.buffer_pool.proofs.Soundness.{sound-use}
 use Rattle.buffer_pool.proofs.ByteLaws.{copied-none}
 use Rattle.buffer_pool.proofs.StepLaws.{commit-own, take-own, release-own}
@@ -400,12 +401,12 @@ module _ (p : BufferPool) (O : Orderly 8 p) (destination : ℕ) where
   nothing : Bounded 0
   nothing = record { within-destination = omega arith; within-kept = omega arith }
 
-  pooled-bounded : (spent : Bool) (mode : PoolMode) (n : ℕ) → Bounded (copiedLength (pooled spent 8 p mode n .answer))
+  pooled-bounded : (spent : Bool) (mode : PoolMode) (n : ℕ) → Bounded (values (pooled spent 8 p mode n .answer) .length)
   pooled-bounded true mode n = nothing
   pooled-bounded false mode n = nothing
 
   take-bounded : (empty long spent : Bool) (mode : PoolMode) → ltb destination (frameOf mode p .length) ≡ long → InMode 8 mode p (p .reserved)
-      → Bounded (copiedLength (takeOn empty long spent mode 8 p .answer))
+      → Bounded (values (takeOn empty long spent mode 8 p .answer) .length)
   unfolding takeOn
   take-bounded true long spent Back e I = nothing
   take-bounded true long spent (Front f) e I = nothing
@@ -416,7 +417,7 @@ module _ (p : BufferPool) (O : Orderly 8 p) (destination : ℕ) where
   take-bounded false false spent Alloc e I =
       record { within-destination = omega (arith, ltb-false destination (p .cursor) e); within-kept = omega (arith, I .fits) }
 
-  pub copy-bounded : Bounded (copiedLength (takeStep 8 p destination .answer))
+  pub copy-bounded : Bounded (values (takeStep 8 p destination .answer) .length)
   unfolding takeStep
   copy-bounded = take-bounded (eqb (frameOf (p .mode) p .length) 0) _ (leb mostSerials (p .given)) (p .mode) refl (O .in-mode)
 
@@ -434,10 +435,10 @@ module _ (p : BufferPool) (pool overflow destination : List ℕ) (k : ℕ) (e : 
 
   -- a take that its step refuses copies nothing
   refused-copies : (refusal (takeStep 8 p (length destination) .answer) ≡ 0 → ⊥)
-      → copiedOut (takeStep 8 p (length destination)) p (memories pool overflow) destination (copiedLength (takeStep 8 p (length destination) .answer))
+      → copiedOut (takeStep 8 p (length destination)) p (memories pool overflow) destination (values (takeStep 8 p (length destination) .answer) .length)
       ≡ outcome (refused p (refusal (takeStep 8 p (length destination) .answer))) (memories pool overflow) destination
   refused-copies o =
-      ap (λ (x : Called). copiedOut x p (memories pool overflow) destination (copiedLength (x .answer))) (take-own p (length destination) o)
+      ap (λ (x : Called). copiedOut x p (memories pool overflow) destination (values (x .answer) .length)) (take-own p (length destination) o)
       ∙ copies-none (refused p (refusal (takeStep 8 p (length destination) .answer)))
 
   pub take-turned : (k ≡ 0 → ⊥) → (c : Called) → c ≡ refused p k → outcome c (memories pool overflow) destination ≡ take 8 p (memories pool overflow) destination
@@ -447,9 +448,9 @@ module _ (p : BufferPool) (pool overflow destination : List ℕ) (k : ℕ) (e : 
   guarded-none : k ≡ 0 → 0 ≡ cause 8 p (memories pool overflow)
   guarded-none z = none-guarded p (memories pool overflow) _ k e z
 
-  module _ (z : k ≡ 0) (c : Called) (f : c ≡ takeStep 8 p (length destination)) (n : ℕ) (g : n ≡ copiedLength (c .answer)) where
-    length-is : n ≡ copiedLength (takeStep 8 p (length destination) .answer)
-    length-is = g ∙ ap (λ (x : Called). copiedLength (x .answer)) f
+  module _ (z : k ≡ 0) (c : Called) (f : c ≡ takeStep 8 p (length destination)) (n : ℕ) (g : n ≡ values (c .answer) .length) where
+    length-is : n ≡ values (takeStep 8 p (length destination) .answer) .length
+    length-is = g ∙ ap (λ (x : Called). values (x .answer) .length) f
 
     through-take : (o : Outcome) → o ≡ copiedOut c p (memories pool overflow) destination n → o ≡ take 8 p (memories pool overflow) destination
     unfolding take

@@ -1,16 +1,15 @@
 -- A frame in the overflow, one call of `reserve_`, the reservation at its end and the recursion, from what the code of placing.rt knows
 -- where it returns. Assumes nothing.
 use mathlib.Core.Path.{_≡_, refl, sym, ap, _∙_, subst}
-use mathlib.Core.Bool.{Bool, true, false, not, _&&_, _||_}
+use mathlib.Core.Bool.{Bool, true, false, not}
 use mathlib.Core.List.{List, [], _∷_, _++_, append-assoc, append-nil}
 use Prim.Native.Nat.{ℕ, zero, suc, _+_, _-_, _≤_, _<_, max}
 use native.Mathlib.Nat.{add-zero}
-use native.Mathlib.Numerals.{sub-one}
 use native.Mathlib.Omega.{arith}
-use lib.Dec.{leb, ltb, eqb}
-use borrow.Author.Tests.{lt-ltb, le-ltb, lt-leb, le-leb, eq-eqb, ne-eqb}
+use lib.Dec.{ltb}
+use borrow.Author.Tests.{lt-ltb, le-ltb, eq-eqb, ne-eqb}
 use lib.Count.{leading-le}
-use Rattle.laws.proofs.Tests.{no-true, not-true, not-false}
+use Rattle.laws.proofs.Tests.{no-true}
 use Rattle.buffer_pool.specs.declared.buffer_pool.BufferPool.{BufferPool}
 use Rattle.buffer_pool.specs.declared.buffer_pool.PoolFront.{PoolFront}
 use Rattle.buffer_pool.specs.declared.buffer_pool.PoolMode.{PoolMode}
@@ -21,9 +20,9 @@ use Rattle.buffer_pool.specs.declared.placing.Cleared.{Cleared}
 use Rattle.buffer_pool.specs.declared.placing.ModeStep.{ModeStep}
 use Rattle.buffer_pool.specs.declared.placing.Decided.{Decided}
 use Rattle.buffer_pool.specs.Record.{framed}
-use Rattle.buffer_pool.specs.Moves.{Move, Grow}
+use Rattle.buffer_pool.specs.Moves.{Move}
 use Rattle.buffer_pool.specs.MoveList.{byteMove, moveOf, listed}
-use Rattle.buffer_pool.specs.Placing.{Decision, Layer, stay, change, finish, first, changed, resolveOn, resolve, toAlloc, clearable, tailFits, tailCleared, headFits, headCleared, stays, backOn, frontCleared, leaveOn, frontOn, allocOn, placeOf, backLayer, frontLayer, allocLayer, layer, isAlloc, tooLong}
+use Rattle.buffer_pool.specs.Placing.{Decision, Layer, stay, change, finish, first, resolveOn, toAlloc, clearable, tailFits, tailCleared, headFits, headCleared, stays, backOn, frontCleared, leaveOn, frontOn, allocOn, placeOf, backLayer, frontLayer, allocLayer, layer, isAlloc, tooLong}
 use Rattle.buffer_pool.specs.Deciding.{frontLen, Placeable, Decides, clearedOn, layerOf, ahead, decisionOf, finished, following}
 use Rattle.buffer_pool.proofs.Order.{last-held}
 use Rattle.buffer_pool.proofs.BackLaws.{clearable-is-full}

@@ -1,7 +1,7 @@
 -- One call of `reserve_` in the front, from what the code of pool_front.rt knows where it returns. Assumes nothing.
-use mathlib.Core.Path.{_≡_, refl, sym, ap, _∙_}
+use mathlib.Core.Path.{_≡_, sym, ap, _∙_}
 use mathlib.Core.Bool.{Bool, true, false, not, _&&_}
-use mathlib.Core.List.{List, [], _∷_, _++_, append-assoc, append-nil}
+use mathlib.Core.List.{List, [], _++_, append-assoc, append-nil}
 use Prim.Native.Nat.{ℕ, _+_, _≤_, _<_}
 use lib.Dec.{leb, ltb}
 use borrow.Author.Tests.{lt-ltb, le-ltb}
@@ -14,9 +14,9 @@ use Rattle.buffer_pool.specs.declared.moves.Moves.{Moves}
 use Rattle.buffer_pool.specs.declared.placing.Cleared.{Cleared}
 use Rattle.buffer_pool.specs.declared.placing.ModeStep.{ModeStep}
 use Rattle.buffer_pool.specs.Record.{after, front, placed}
-use Rattle.buffer_pool.specs.Moves.{Move, Out, within}
+use Rattle.buffer_pool.specs.Moves.{Move, within}
 use Rattle.buffer_pool.specs.MoveList.{listed}
-use Rattle.buffer_pool.specs.Placing.{Layer, stay, change, goOut, clearable, tailStart, tailFits, tailCleared, frontFits, frontLast, frontCleared, leaveOn, leave, frontOn, frontLayer}
+use Rattle.buffer_pool.specs.Placing.{stay, change, goOut, clearable, tailFits, tailCleared, frontFits, frontLast, frontCleared, leaveOn, leave, frontOn, frontLayer}
 use Rattle.buffer_pool.specs.Deciding.{clearedOn, layerOf, ahead}
 use Rattle.buffer_pool.proofs.LayerLaws.{cleared-true, cleared-false}
 

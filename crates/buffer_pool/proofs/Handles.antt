@@ -24,7 +24,8 @@ use Rattle.buffer_pool.specs.declared.buffer_pool.Called.{Called}
 use Rattle.buffer_pool.specs.Record.{startAt, newRecord, marked}
 use Rattle.buffer_pool.specs.Placing.{place, tooLong}
 use Rattle.buffer_pool.specs.Sound.{Held, Orderly}
-use Rattle.buffer_pool.specs.Steps.{refusal, frame, frameOf, reserveOn, reserveStep, resized, commitStep, truncateStep, mostSerials, nextHandle, handedOut, longer, takeOn, takeStep, names, releaseStep}
+use Rattle.buffer_pool.specs.Values.{refusal, values}
+use Rattle.buffer_pool.specs.Steps.{frame, frameOf, reserveOn, reserveStep, resized, commitStep, truncateStep, mostSerials, nextHandle, handedOut, longer, takeOn, takeStep, names, releaseStep}
 use Rattle.buffer_pool.specs.Together.{holding, without, letGo}
 use Rattle.buffer_pool.proofs.Order.{none-held}
 use Rattle.buffer_pool.proofs.Unchanged.{place-live, place-serials, place-starts, place-lengths}
@@ -320,13 +321,13 @@ module _ (w : ℕ) (r : BufferPool) (held : List Handle) (H : Holds w r held) wh
   truncate-holds n = same-holds (truncate-same w r n) H
 
   pub take-holds : (destination : ℕ) → Orderly w r → let c = takeStep w r destination in
-      Holds w (c .pool) (holding (c .answer) held)
+      Holds w (c .pool) (holding (values (c .answer)) held)
   unfolding takeStep takeOn
   take-holds destination O =
       go (r .mode) (eqb (frame r .length) 0) refl (ltb destination (frame r .length)) (leb mostSerials (r .given))
     where
       go : (mode : PoolMode) (z : Bool) → eqb (frameOf mode r .length) 0 ≡ z → (long spent : Bool)
-          → Holds w (takeOn z long spent mode w r .pool) (holding (takeOn z long spent mode w r .answer) held)
+          → Holds w (takeOn z long spent mode w r .pool) (holding (values (takeOn z long spent mode w r .answer)) held)
       go mode true e long spent = same-holds (resized-same w r mode (frameOf mode r .length)) H
       go Back false e long true = H
       go Back false e long false =

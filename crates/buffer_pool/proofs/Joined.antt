@@ -29,7 +29,7 @@ use Rattle.buffer_pool.specs.declared.buffer_pool.View.{View}
 use Rattle.buffer_pool.specs.Calls.{misfit, guarded, shown, hidden, frameView, reservationView, sliceView, memoryAt, bytesAt}
 use Rattle.buffer_pool.specs.Rust.{done, RustPool}
 use Rattle.buffer_pool.specs.AsRust.{rustOf, heapOf, Stands}
-use Rattle.buffer_pool.specs.Causes.{Part, TheFrame, TheReservation, TheSlice, viewOf}
+use Rattle.buffer_pool.specs.Vocabulary.{Part, TheFrame, TheReservation, TheSlice, viewOf}
 use Rattle.buffer_pool.specs.Together.{Seen, seen, Given, Shown, Ours, view, seenIn, shownBy, Holder, holder, Theirs, rustFrameIn, rustFrame, rustReservation, heldPlace, rustPlace, rustMemory, rustSeen, rustShown}
 use Rattle.buffer_pool.proofs.Soundness.{sound-use}
 use Rattle.buffer_pool.proofs.RustCalls.{InKept, frame-agrees}

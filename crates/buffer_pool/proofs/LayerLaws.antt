@@ -1,25 +1,23 @@
 -- One call of `reserve_` in each mode, from what the code of placing.rt, pool_back.rt and pool_front.rt knows where it returns.
 -- Assumes nothing.
-use mathlib.Core.Path.{_≡_, refl, sym, ap, ap₂, _∙_}
-use mathlib.Core.Bool.{Bool, true, false, not, _&&_, _||_}
-use mathlib.Core.List.{List, [], _∷_, _++_, append-assoc, append-nil}
-use Prim.Native.Nat.{ℕ, zero, suc, _+_, _-_, _≤_, _<_, max}
+use mathlib.Core.Path.{_≡_, refl, sym, ap, _∙_}
+use mathlib.Core.Bool.{Bool, true, false, not}
+use mathlib.Core.List.{[], _∷_, _++_, append-nil}
+use Prim.Native.Nat.{ℕ, _+_, _-_, max}
 use native.Mathlib.Omega.{arith}
-use lib.Dec.{leb, ltb, eqb}
-use borrow.Author.Tests.{lt-ltb, le-ltb, lt-leb, le-leb, eq-eqb, ne-eqb}
+use lib.Dec.{leb, ltb}
 use Rattle.laws.proofs.Tests.{no-true, not-true, not-false}
 use Rattle.buffer_pool.proofs.BackLaws.{clearable-is-full}
 use Rattle.buffer_pool.specs.declared.buffer_pool.BufferPool.{BufferPool}
-use Rattle.buffer_pool.specs.declared.buffer_pool.PoolMode.{PoolMode}
-use Rattle.buffer_pool.specs.declared.buffer_pool.PoolMode.the-variants.{Back, Front, Alloc}
+use Rattle.buffer_pool.specs.declared.buffer_pool.PoolMode.the-variants.{Back, Alloc}
 use Rattle.buffer_pool.specs.declared.moves.Moves.{Moves}
 use Rattle.buffer_pool.specs.declared.moves.MoveKind.the-variants as kind
 use Rattle.buffer_pool.specs.declared.placing.Cleared.{Cleared}
 use Rattle.buffer_pool.specs.declared.placing.ModeStep.{ModeStep}
 use Rattle.buffer_pool.specs.Record.{framed}
-use Rattle.buffer_pool.specs.Moves.{Move, Out, within}
+use Rattle.buffer_pool.specs.Moves.{within}
 use Rattle.buffer_pool.specs.MoveList.{byteMove, moveOf, listed}
-use Rattle.buffer_pool.specs.Placing.{Layer, stay, change, goOut, clearable, tailStart, tailFits, tailCleared, headFits, headCleared, backFits, backOn, backLayer}
+use Rattle.buffer_pool.specs.Placing.{stay, change, goOut, clearable, tailFits, tailCleared, headFits, headCleared, backFits, backOn, backLayer}
 use Rattle.buffer_pool.specs.Deciding.{clearedOn, layerOf, ahead}
 
 -- ---- Out to the overflow

@@ -24,6 +24,7 @@ pub mod MovesInside
 pub mod PerformLaws
 pub mod Unmoved
 pub mod CallLaws
+pub mod ViewPlaces
 pub mod ViewLaws
 pub mod SoundKept
 pub mod HeapMoves

@@ -1,22 +1,22 @@
 -- The moves of a reserve that is not refused lie inside the two memories: a frame moves from where it lies to where the next record has
 -- it, and both are inside. The same tree as ReserveKept.antt. Assumes nothing.
-use mathlib.Core.Path.{_≡_, refl, sym, ap, _∙_, subst}
+use mathlib.Core.Path.{_≡_, refl, sym, subst}
 use mathlib.Core.Bool.{Bool, true, false, _&&_}
 use mathlib.Core.List.{List, [], _∷_, _++_}
-use Prim.Native.Nat.{ℕ, zero, suc, _+_, _-_, _≤_, _<_, max}
+use Prim.Native.Nat.{ℕ, zero, suc, _+_, _-_, _≤_, _<_}
 use native.Mathlib.Omega.{arith}
-use lib.Dec.{leb, ltb, eqb}
-use borrow.Author.Tests.{ltb-true, ltb-false, leb-true, eqb-true, lt-ltb, le-leb}
-use Rattle.laws.proofs.Tests.{both, both-true, ltb-and, leb-and}
+use lib.Dec.{ltb, eqb}
+use borrow.Author.Tests.{ltb-true, ltb-false, le-leb}
+use Rattle.laws.proofs.Tests.{both, both-true}
 use Rattle.buffer_pool.specs.declared.buffer_pool.BufferPool.{BufferPool}
 use Rattle.buffer_pool.specs.declared.buffer_pool.PoolFront.{PoolFront}
 use Rattle.buffer_pool.specs.declared.buffer_pool.PoolMode.{PoolMode}
 use Rattle.buffer_pool.specs.declared.buffer_pool.PoolMode.the-variants.{Back, Front, Alloc}
-use Rattle.buffer_pool.specs.Moves.{Move, Within, In, Down, Out, Grow, within, inside, allInside}
-use Rattle.buffer_pool.specs.Placing.{Decision, Layer, toAlloc, grows, finish, changed, change, goOut, resolve, clearable, tailStart, tailFits, tailCleared, headFits, headCleared, backFits, backOn, frontFits, frontLast, frontStart, shorter, frontCleared, leaveOn, leave, frontOn, stays, allocOn, layer, backLayer, frontLayer, allocLayer, placeOf, mostChanges, resets, resetOn, resetMoves, reset, place, tooLong}
+use Rattle.buffer_pool.specs.Moves.{Move, Out, within, inside, allInside}
+use Rattle.buffer_pool.specs.Placing.{Decision, Layer, toAlloc, grows, finish, changed, change, goOut, resolve, clearable, tailStart, tailFits, tailCleared, headFits, headCleared, backFits, backOn, frontFits, frontLast, frontStart, frontCleared, leaveOn, leave, frontOn, stays, allocOn, layer, backLayer, frontLayer, allocLayer, placeOf, mostChanges, resets, resetOn, resetMoves, reset, place, tooLong}
 use Rattle.buffer_pool.specs.Sound.{Ready, InBack, InFront, InAlloc, InMode, Orderly}
-use Rattle.buffer_pool.proofs.Rules.{out-ready, out-in, tail-fits, tail-ready, tail-in, tail-room, head-ready, head-in, front-ready, front-start, front-in}
-use Rattle.buffer_pool.proofs.ReserveKept.{Fit, back-fits, stays-not, kept-fit, reset-fit}
+use Rattle.buffer_pool.proofs.Rules.{out-ready, tail-fits, tail-ready, tail-in, tail-room, head-ready, head-in, front-ready, front-start}
+use Rattle.buffer_pool.proofs.ReserveKept.{back-fits, stays-not, kept-fit, reset-fit}
 
 pub inside-append : (c o : ℕ) (a b : List Move) → allInside c o a ≡ true → allInside c o b ≡ true → allInside c o (a ++ b) ≡ true
 unfolding allInside

@@ -5,11 +5,11 @@ use mathlib.Core.Path.{_≡_, refl, sym, _∙_}
 use mathlib.Core.Bool.{Bool, true, false, not, _&&_, _||_}
 use mathlib.Core.List.{List, [], _∷_}
 use mathlib.Core.Logic.{_⊎_, inl, inr}
-use Prim.Native.Nat.{ℕ, zero, suc, _+_}
+use Prim.Native.Nat.{ℕ, suc, _+_}
 use native.Mathlib.Omega.{arith}
 use borrow.Author.Tests.{eqb-true, eqb-false, lt-ltb, le-ltb}
 use lib.Dec.{leb, ltb, eqb}
-use lib.ListN.{length, replicate}
+use lib.ListN.{length}
 use lib.Seq.{length-take-le}
 use Rattle.laws.specs.Tests.{pick}
 use Rattle.laws.specs.Live.{liveAt, released}
@@ -19,20 +19,23 @@ use Rattle.buffer_pool.specs.declared.buffer_pool.BufferPool.{BufferPool
 use Rattle.buffer_pool.specs.declared.buffer_pool.PoolMode.{PoolMode}
 use Rattle.buffer_pool.specs.declared.buffer_pool.PoolMode.the-variants.{Back, Front, Alloc}
 use Rattle.buffer_pool.specs.declared.buffer_pool.Memory.the-variants.{Pool}
-use Rattle.buffer_pool.specs.declared.buffer_pool.Answer.the-variants.{Done, Refused}
+use Rattle.buffer_pool.specs.declared.buffer_pool.Answer.the-variants.{Done}
 use Rattle.buffer_pool.specs.declared.buffer_pool.Called.{Called}
-use Rattle.buffer_pool.specs.Record.{byteLimit, startAt, newRecord, marked}
-use Rattle.buffer_pool.specs.Moves.{Memories, memories}
+use Rattle.buffer_pool.specs.Record.{byteLimit, startAt, marked}
+use Rattle.buffer_pool.specs.Moves.{Memories}
 use Rattle.buffer_pool.specs.Placing.{Decision, place, tooLong, isAlloc}
 use Rattle.buffer_pool.specs.Soundness.{sound}
 use Rattle.buffer_pool.specs.Sound.{Orderly}
-use Rattle.buffer_pool.specs.Steps.{refusal, called, refused, at, frame, frameOf, reservation, reserveOn, reserveStep, resized, reframed, commitStep, truncateStep, mostSerials, takeOn, takeStep, names, releaseStep}
+use Rattle.buffer_pool.specs.Values.{refusal}
+use Rattle.buffer_pool.specs.Steps.{called, refused, at, frame, frameOf, reservation, reserveOn, reserveStep, resized, reframed, commitStep, truncateStep, mostSerials, takeOn, takeStep, names, releaseStep}
 use Rattle.buffer_pool.specs.declared.buffer_pool.View.{View}
-use Rattle.buffer_pool.specs.Calls.{Outcome, outcome, misfit, guarded, guardedCall, new, reserve, commit, truncate, copiedOut, take, release, hidden, shown, frameView, reservationView, sliceView}
+use Rattle.buffer_pool.specs.Calls.{Outcome, outcome, misfit, guarded, guardedCall, newOn, new, reserve, commit, truncate, copiedOut, take, release, hidden, shown, frameView, reservationView, sliceView}
 use Rattle.buffer_pool.specs.Rust.{RustPool, rust-reserve}
 use Rattle.buffer_pool.specs.AsRust.{rustOf, heapOf, Mirrors, Stands}
-use Rattle.buffer_pool.specs.Causes.{Part, TheFrame, TheReservation, TheSlice, Call, Reserve, Commit, Truncate, Take, Release, Look, viewOf, told, outcomeOf, numberOf, unsound, tooLarge, inOverflow, usesHeap, heapTooShort, pastReservation, destinationTooShort, unknown, serialsExhausted, Cause, cause, viewCauses, ownCauses, causes, newCauses, firstCause, First}
+use Rattle.buffer_pool.specs.Vocabulary.{Part, TheFrame, TheReservation, TheSlice, Call, Reserve, Commit, Truncate, Take, Release, Look, viewOf, call, numberOf}
+use Rattle.buffer_pool.specs.Causes.{unsound, tooLarge, inOverflow, usesHeap, heapTooShort, pastReservation, destinationTooShort, unknown, serialsExhausted, Cause, cause, viewCauses, ownCauses, causes, newCauses, firstCause, First}
 use Rattle.buffer_pool.proofs.Soundness.{sound-use}
+use Rattle.buffer_pool.proofs.Answers.{view-number}
 use Rattle.buffer_pool.proofs.Unchanged.{place-overflow}
 use Rattle.buffer_pool.proofs.FrameLength.{place-leaves}
 use Rattle.buffer_pool.proofs.RustAgrees.{rust-agrees}
@@ -177,11 +180,6 @@ view-first w r h = rw (unknown-is w r h) (go (names w r h))
     go true = refl
     go false = refl
 
-pub told-is : (n : ℕ) → refusal (told n) ≡ n
-unfolding told refusal
-told-is zero = refl
-told-is (suc n) = refl
-
 -- ---- The calls: 1 and 2 before the step's own
 
 module _ (w : ℕ) (r : BufferPool) (m : Memories) where
@@ -211,13 +209,13 @@ module _ (w : ℕ) (r : BufferPool) (m : Memories) where
   part-first (TheSlice h) = guarded-first (λ (v : View). v .number) hidden (λ n. refl) _ _ (λ O e. view-first w r h)
 
   pub only-for-cause : (c : Call) → numberOf w r m c ≡ firstCause (causes w r m c)
-  unfolding numberOf outcomeOf causes ownCauses reserve commit truncate take copiedOut release
+  unfolding numberOf call causes ownCauses reserve commit truncate take copiedOut release
   only-for-cause (Reserve len) = call-first [] _ _ (λ O e. reserve-first w r m len O e)
   only-for-cause (Commit n) = call-first [] _ _ (λ O e. commit-first r n)
   only-for-cause (Truncate n) = call-first [] _ _ (λ O e. truncate-first r n)
   only-for-cause (Take destination) = call-first destination _ _ (λ O e. take-first w r destination)
   only-for-cause (Release h) = call-first [] _ _ (λ O e. release-first w r h)
-  only-for-cause (Look part) = told-is (viewOf w r m part .number) ∙ part-first part
+  only-for-cause (Look part) = view-number (viewOf w r m part .number) (viewOf w r m part .place) ∙ part-first part
 
 -- ---- New
 
@@ -225,12 +223,7 @@ pub new-only-for-cause : (w : ℕ) (m : Memories) → refusal (new w m .call .an
 unfolding new refusal newCauses tooLarge firstCause
 new-only-for-cause w m = go (ltb byteLimit (length (m .pool)) || ltb byteLimit (length (m .overflow)))
   where
-    made : Bool → Outcome
-    made t =
-        pick t (outcome (called (newRecord w 0 0) (Refused 3)) m [])
-        (outcome (called (newRecord w (length (m .pool)) (length (m .overflow))) Done) (memories (replicate (length (m .pool)) 0) (m .overflow)) [])
-
-    go : (t : Bool) → refusal (made t .call .answer) ≡ pick t 3 0
+    go : (t : Bool) → refusal (newOn t w m .call .answer) ≡ pick t 3 0
     go true = refl
     go false = refl
 

@@ -1,6 +1,6 @@
 -- One move and a list of moves made, from what the code of performing.rt knows where it returns. Assumes nothing.
 use mathlib.Core.Path.{_≡_, refl, sym, ap, _∙_, subst}
-use mathlib.Core.Bool.{Bool, true, false, _&&_}
+use mathlib.Core.Bool.{true}
 use mathlib.Core.List.{List, [], _∷_, _++_, map}
 use Prim.Native.Nat.{ℕ, zero, suc, _+_, _-_, _≤_, _<_, min}
 use native.Mathlib.Numerals.{add-one}
@@ -15,7 +15,7 @@ use Rattle.buffer_pool.specs.declared.moves.ByteMove.{ByteMove}
 use Rattle.buffer_pool.specs.declared.moves.MoveKind.{MoveKind}
 use Rattle.buffer_pool.specs.declared.moves.MoveKind.the-variants as kind
 use Rattle.buffer_pool.specs.declared.moves.Moves.{Moves}
-use Rattle.buffer_pool.specs.Moves.{Memories, memories, Move, Within, In, Down, Out, Grow, act, perform, inside, allInside}
+use Rattle.buffer_pool.specs.Moves.{Memories, memories, Move, act, perform, inside, allInside}
 use Rattle.buffer_pool.specs.MoveList.{moveAs, moveOf, listed}
 
 -- ---- One move

@@ -1,11 +1,13 @@
 -- A refused call leaves record, both memories and a take's destination as they were: for every record and memories, sound or
 -- not. Refused by 1 or 2, nothing was begun; refused by a cause of its own, each call's step gives back what it got. Assumes
 -- nothing.
-use mathlib.Core.Path.{_≡_, refl}
+use mathlib.Core.Path.{_≡_, refl, ap, _∙_}
 use mathlib.Core.Bool.{Bool, true, false, not, _||_}
 use mathlib.Core.List.{List, []}
-use Prim.Native.Nat.{ℕ, zero, suc, _<_}
+use mathlib.Core.Logic.{_⊎_, inl, inr}
+use Prim.Native.Nat.{ℕ, zero, suc, _≤_, _<_}
 use native.Mathlib.Omega.{arith}
+use borrow.Author.Tests.{le-ltb}
 use lib.Dec.{leb, ltb, eqb}
 use lib.ListN.{length}
 use Rattle.laws.specs.Tests.{pick}
@@ -15,15 +17,19 @@ use Rattle.buffer_pool.specs.declared.slice.Handle.{Handle}
 use Rattle.buffer_pool.specs.declared.buffer_pool.BufferPool.{BufferPool}
 use Rattle.buffer_pool.specs.declared.buffer_pool.PoolMode.{PoolMode}
 use Rattle.buffer_pool.specs.declared.buffer_pool.PoolMode.the-variants.{Back, Front, Alloc}
+use Rattle.buffer_pool.specs.declared.buffer_pool.Memory.the-variants.{Pool}
+use Rattle.buffer_pool.specs.declared.buffer_pool.Place.{Place}
 use Rattle.buffer_pool.specs.declared.buffer_pool.Called.{Called}
-use Rattle.buffer_pool.specs.Record.{byteLimit, newRecord}
+use Rattle.buffer_pool.specs.Record.{byteLimit}
 use Rattle.buffer_pool.specs.Moves.{Memories, perform}
 use Rattle.buffer_pool.specs.Placing.{place, tooLong}
 use Rattle.buffer_pool.specs.Soundness.{sound}
-use Rattle.buffer_pool.specs.Steps.{refusal, refused, frame, reserveOn, reserveStep, commitStep, truncateStep, mostSerials, takeOn, takeStep, copiedLength, takeMoves, names, releaseStep}
+use Rattle.buffer_pool.specs.Values.{refusal, values}
+use Rattle.buffer_pool.specs.Steps.{refused, at, frame, reserveOn, reserveStep, commitStep, truncateStep, mostSerials, takeOn, takeStep, takeMoves, names, releaseStep}
 use Rattle.buffer_pool.specs.declared.buffer_pool.View.{View}
-use Rattle.buffer_pool.specs.Calls.{Outcome, outcome, misfit, guarded, guardedCall, new, reserve, commit, truncate, copiedOut, take, release, hidden, frameView, reservationView, sliceView}
-use Rattle.buffer_pool.specs.Causes.{Part, TheFrame, TheReservation, TheSlice, Call, Reserve, Commit, Truncate, Take, Release, Look, viewOf, told, outcomeOf, numberOf, destinationOf}
+use Rattle.buffer_pool.specs.Calls.{Outcome, outcome, misfit, guarded, guardedCall, newRefused, newDone, newOn, new, reserve, commit, truncate, copiedOut, take, release, hidden, frameView, reservationView, sliceView, written}
+use Rattle.buffer_pool.specs.Vocabulary.{Part, TheFrame, TheReservation, TheSlice, Call, Reserve, Commit, Truncate, Take, Release, Look, viewOf, viewAnswer, call, numberOf, destinationOf}
+use Rattle.buffer_pool.specs.Causes.{tooLarge}
 
 -- an outcome that, where it is a refusal, leaves these
 abbrev Keeps : BufferPool → Memories → List ℕ → Outcome → Type 0
@@ -63,13 +69,13 @@ module _ (w : ℕ) (r : BufferPool) (m : Memories) where
   truncate-keeps n h = absurd (omega arith)
 
   take-keeps : (destination : List ℕ) → let c = takeStep w r (length destination) in
-      Keeps r m destination (copiedOut c r m destination (copiedLength (c .answer)))
+      Keeps r m destination (copiedOut c r m destination (values (c .answer) .length))
   unfolding takeStep takeOn refusal copiedOut takeMoves perform copied part
   take-keeps destination =
       go (eqb (frame r .length) 0) (ltb (length destination) (frame r .length)) (leb mostSerials (r .given)) (r .mode)
     where
       taking : Called → Outcome
-      taking c = copiedOut c r m destination (copiedLength (c .answer))
+      taking c = copiedOut c r m destination (values (c .answer) .length)
 
       go : (z long spent : Bool) (mode : PoolMode) → Keeps r m destination (taking (takeOn z long spent mode w r))
       go true long spent mode h = absurd (omega arith)
@@ -86,8 +92,8 @@ module _ (w : ℕ) (r : BufferPool) (m : Memories) where
       pick-cases (λ (c : Called). Keeps r m [] (outcome c m [])) (names w r h) (λ e k. absurd (omega arith)) (λ e k. refl)
 
   pub refused-keeps : (c : Call) → 0 < numberOf w r m c
-      → outcomeOf w r m c ≡ outcome (refused r (numberOf w r m c)) m (destinationOf c)
-  unfolding numberOf outcomeOf reserve commit truncate take release told refusal
+      → call w r m c ≡ outcome (refused r (numberOf w r m c)) m (destinationOf c)
+  unfolding numberOf call reserve commit truncate take release viewAnswer refusal
   refused-keeps (Reserve len) = guarded-keeps [] _ (reserve-keeps len)
   refused-keeps (Commit n) = guarded-keeps [] _ (commit-keeps n)
   refused-keeps (Truncate n) = guarded-keeps [] _ (truncate-keeps n)
@@ -95,11 +101,11 @@ module _ (w : ℕ) (r : BufferPool) (m : Memories) where
   refused-keeps (Release h) = guarded-keeps [] _ (release-keeps h)
   refused-keeps (Look part) = go (viewOf w r m part .number)
     where
-      go : (n : ℕ) → Keeps r m [] (outcome (record { pool = r; answer = told n }) m [])
+      go : (n : ℕ) → Keeps r m [] (outcome (record { pool = r; answer = viewAnswer n (viewOf w r m part .place) }) m [])
       go zero h = absurd (omega arith)
       go (suc n) h = refl
 
--- "A refused view is an empty part of the pool memory"
+-- SPECIFICATION 3.6: "A refused view is an empty place: the pool memory, start 0, length 0"
 module _ (w : ℕ) (r : BufferPool) (m : Memories) where
   abbrev Hides : View → Type 0
   Hides v = 0 < v .number → v ≡ hidden (v .number)
@@ -118,17 +124,22 @@ module _ (w : ℕ) (r : BufferPool) (m : Memories) where
   refused-view TheReservation = guarded-hides _ (λ h. absurd (omega arith))
   refused-view (TheSlice h) = guarded-hides _ (pick-cases Hides (names w r h) (λ e k. absurd (omega arith)) (λ e k. refl))
 
--- "New gives only 3, with the record of a new pool whose two lengths are 0"
-pub new-refused-keeps : (w : ℕ) (m : Memories) → 0 < refusal (new w m .call .answer)
-    → new w m ≡ outcome (refused (newRecord w 0 0) (refusal (new w m .call .answer))) m []
-unfolding new refusal
-new-refused-keeps w m =
-    pick-cases (λ (o : Outcome). Keeps (newRecord w 0 0) m [] o)
-    (ltb byteLimit (length (m .pool)) || ltb byteLimit (length (m .overflow))) (λ e h. refl) (λ e h. absurd (omega arith))
+  -- past a place's end a write sets no byte, and a refused view has none
+  pub past-written : (p : Place) (i byte : ℕ) → p .length ≤ i → written m p i byte ≡ m
+  unfolding written
+  past-written p i byte h = rw (le-ltb i (p .length) h) refl
 
--- "the overflow then counts as length 0 and its bytes stay", whether new is refused or not
-pub new-overflow-stays : (w : ℕ) (m : Memories) → (new w m .memory .overflow ≡ m .overflow) × (new w m .call .pool .kept ≡ 0)
-unfolding new
-new-overflow-stays w m =
-    pick-cases (λ (o : Outcome). (o .memory .overflow ≡ m .overflow) × (o .call .pool .kept ≡ 0))
-    (ltb byteLimit (length (m .pool)) || ltb byteLimit (length (m .overflow))) (λ e. (refl, refl)) (λ e. (refl, refl))
+  pub refused-written : (part : Part) (i byte : ℕ) → 0 < viewOf w r m part .number → written m (viewOf w r m part .place) i byte ≡ m
+  refused-written part i byte h =
+      ap (λ (v : View). written m (v .place) i byte) (refused-view part h) ∙ past-written (at Pool 0 0) i byte (omega arith)
+
+-- ---- New
+
+pub new-cases : (w : ℕ) (m : Memories)
+    → ((tooLarge m ≡ false) × (new w m ≡ newDone w m)) ⊎ ((tooLarge m ≡ true) × (new w m ≡ newRefused w m))
+unfolding new tooLarge
+new-cases w m = go (ltb byteLimit (length (m .pool)) || ltb byteLimit (length (m .overflow)))
+  where
+    go : (t : Bool) → ((t ≡ false) × (newOn t w m ≡ newDone w m)) ⊎ ((t ≡ true) × (newOn t w m ≡ newRefused w m))
+    go false = inl (refl, refl)
+    go true = inr (refl, refl)

@@ -1,14 +1,14 @@
 -- The reset and the whole decision of a reserve, from what the code of placing.rt knows where it returns. Assumes nothing.
 use mathlib.Core.Path.{_≡_, refl, sym, ap, _∙_, subst}
-use mathlib.Core.Bool.{Bool, true, false, not, _&&_, _||_}
+use mathlib.Core.Bool.{Bool, true, false, _&&_}
 use mathlib.Core.List.{List, [], _∷_, _++_}
-use Prim.Native.Nat.{ℕ, zero, suc, _+_, _-_, _≤_, _<_}
+use Prim.Native.Nat.{ℕ, _+_, _-_, _≤_, _<_}
 use native.Mathlib.Nat.{zero-add}
 use native.Mathlib.Omega.{arith}
-use lib.Dec.{leb, ltb, eqb}
+use lib.Dec.{ltb, eqb}
 use lib.ListN.{replicate}
-use borrow.Author.Tests.{lt-ltb, le-ltb, eq-eqb, ne-eqb, eqb-true, eqb-false}
-use Rattle.laws.proofs.Tests.{no-true, both-true}
+use borrow.Author.Tests.{lt-ltb, le-ltb, eq-eqb, ne-eqb, eqb-true}
+use Rattle.laws.proofs.Tests.{no-true}
 use Rattle.buffer_pool.specs.declared.buffer_pool.BufferPool.{BufferPool}
 use Rattle.buffer_pool.specs.declared.buffer_pool.PoolFront.{PoolFront}
 use Rattle.buffer_pool.specs.declared.buffer_pool.PoolMode.{PoolMode}
@@ -20,8 +20,8 @@ use Rattle.buffer_pool.specs.declared.placing.Decided.{Decided}
 use Rattle.buffer_pool.specs.Record.{placed, framed, marked}
 use Rattle.buffer_pool.specs.Moves.{Move, In, Down, within}
 use Rattle.buffer_pool.specs.MoveList.{byteMove, moveOf, listed}
-use Rattle.buffer_pool.specs.Placing.{Decision, first, isAlloc, resets, resetOn, resetMoves, reset, placeOf, place}
-use Rattle.buffer_pool.specs.Deciding.{frontLen, Placeable, Starts, Decides, following}
+use Rattle.buffer_pool.specs.Placing.{Decision, isAlloc, resets, resetOn, resetMoves, reset, placeOf, place}
+use Rattle.buffer_pool.specs.Deciding.{Placeable, Starts, Decides, following}
 
 -- ---- Does it reset?
 

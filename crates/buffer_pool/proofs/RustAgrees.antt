@@ -1,6 +1,6 @@
--- The Rust's reserve is document 01's. The layers are put on each other: B that fits and A just entered settle at once, so F
--- needs one more call of `reserve_`, and B and A two. Before them, the reset; after it a tail that is clearable has a live
--- slot, so the head clear's index is that of a slot. Assumes nothing.
+-- The Rust's reserve is that of SPECIFICATION 5. The layers are put on each other: B that fits and A just entered settle at once, so
+-- F needs one more call of `reserve_`, and B and A two. Before them, the reset; after it a tail that is clearable has a live slot, so
+-- the head clear's index is that of a slot. Assumes nothing.
 use mathlib.Core.Path.{_≡_, refl, sym, ap, _∙_, subst}
 use mathlib.Core.Bool.{Bool, true, false}
 use mathlib.Core.List.{List, [], _∷_, _++_}
@@ -283,7 +283,7 @@ module _ (w k : ℕ) (r : BufferPool) (len : ℕ) (O : Orderly w r) (m : Memorie
 -- ---- The theorems
 
 -- every reserve of every length on an orderly record: no panic, at most two mode changes (a fourth call of `reserve_` is never
--- made), and document 01's record, bytes, writable range and count of changes
+-- made), and the record, bytes, writable range and count of changes of SPECIFICATION 5 and 6
 pub rust-agrees : (w k : ℕ) (r : BufferPool) (m : Memories) (p : RustPool) (len : ℕ) → Orderly w r → Mirrors r m p
     → Leaves (rust-reserve w (suc (suc (suc k))) p len) (decided (place w r len))
     (Mirrors (place w r len .next) (heapPerform (place w r len .moves) m))

@@ -7,7 +7,7 @@ use Prim.Native.Nat.{ℕ, zero, suc, _+_, _-_, _≤_, _<_, min}
 use native.Mathlib.Omega.{arith}
 use borrow.Author.Tests.{ltb-true, ltb-false, eqb-true, eqb-false, lt-ltb, le-leb}
 use lib.Dec.{leb, ltb, eqb}
-use lib.ListN.{length, take, drop, replicate, length-drop, length-set, length-replicate}
+use lib.ListN.{length, take, drop, length-drop, length-set, length-replicate}
 use lib.Seq.{length-take-le, take-take, take-at, take-set-lt}
 use Rattle.laws.specs.Tests.{pick}
 use Rattle.laws.specs.Live.{liveAt, released}
@@ -20,15 +20,16 @@ use Rattle.buffer_pool.specs.declared.buffer_pool.PoolMode.the-variants.
 use Rattle.buffer_pool.specs.declared.buffer_pool.Memory.{Memory}
 use Rattle.buffer_pool.specs.declared.buffer_pool.Memory.the-variants.{Pool, Overflow}
 use Rattle.buffer_pool.specs.declared.buffer_pool.Place.{Place}
-use Rattle.buffer_pool.specs.declared.buffer_pool.Answer.the-variants.{Done, Refused}
+use Rattle.buffer_pool.specs.declared.buffer_pool.Answer.the-variants.{Done}
 use Rattle.buffer_pool.specs.declared.buffer_pool.Called.{Called}
-use Rattle.buffer_pool.specs.Record.{byteLimit, framed, marked, newRecord}
+use Rattle.buffer_pool.specs.Record.{byteLimit, framed, marked}
 use Rattle.buffer_pool.specs.Moves.{Memories, memories, Move, Down, perform}
 use Rattle.buffer_pool.specs.Placing.{place, tooLong, isAlloc}
 use Rattle.buffer_pool.specs.Sound.{Held, InMode, InAlloc, Orderly}
 use Rattle.buffer_pool.specs.Soundness.{sound}
-use Rattle.buffer_pool.specs.Steps.{refusal, called, refused, frameOf, frame, reserveOn, reserveStep, resized, reframed, commitStep, truncateStep, handedOut, mostSerials, takeOn, takeStep, copiedLength, takeMoves, names, releaseStep}
-use Rattle.buffer_pool.specs.Calls.{Outcome, outcome, misfit, guarded, guardedCall, new, reserve, commit, truncate, copiedOut, take as taken, release, bytesAt, writtenIn, written}
+use Rattle.buffer_pool.specs.Values.{refusal, values}
+use Rattle.buffer_pool.specs.Steps.{called, refused, frameOf, frame, reserveOn, reserveStep, resized, reframed, commitStep, truncateStep, handedOut, mostSerials, takeOn, takeStep, takeMoves, names, releaseStep}
+use Rattle.buffer_pool.specs.Calls.{Outcome, outcome, misfit, guarded, guardedCall, newOn, new, reserve, commit, truncate, copiedOut, take as taken, release, bytesAt, writtenIn, written}
 use Rattle.buffer_pool.specs.Rust.{Run, done, RustPool, InnerMemory, Slice, Pooled, Heap, took, pool, back, system, front-len, in-bounds, raw-data, system-commit, system-frame, system-get-data-owned, system-truncate, commit-raw, get-data-owned-on, memory-get-data-owned, rust-reserve, rust-commit-on, rust-commit, rust-truncate-on, rust-truncate, rust-take-on, rust-take, rust-release, rust-frame-on, rust-frame, rust-new}
 use Rattle.buffer_pool.specs.AsRust.{backOf, innerOf, rustAt, rustOf, heapOf, Stands, Leaves, Unrefused, AsRust, replyOf, sliceOf, rustWrittenIn, rustWritten}
 use Rattle.buffer_pool.proofs.Soundness.{sound-use}
@@ -289,11 +290,11 @@ module _ {w : ℕ} {r : BufferPool} {m : Memories} {p : RustPool} (O : Orderly w
 
   -- what a take of ours leaves, by its step
   abbrev taking : List ℕ → Called → Outcome
-  taking destination c = copiedOut c r m destination (copiedLength (c .answer))
+  taking destination c = copiedOut c r m destination (values (c .answer) .length)
 
   abbrev TakesAs : PoolMode → List ℕ → Called → Type 0
   TakesAs mode destination c =
-      AsRust (rust-take w (at-mode mode)) (took (sliceOf (c .answer) (taking destination c .destination))) (taking destination c)
+      AsRust (rust-take w (at-mode mode)) (took (sliceOf (values (c .answer)) (taking destination c .destination))) (taking destination c)
 
   take-on : (destination : List ℕ) (mode : PoolMode) → InMode w mode r (r .reserved) → (z : Bool) → eqb (frameOf mode r .length) 0 ≡ z
       → (long spent : Bool) → refusal (takeOn z long spent mode w r .answer) ≡ 0 → TakesAs mode destination (takeOn z long spent mode w r)
@@ -311,7 +312,7 @@ module _ {w : ℕ} {r : BufferPool} {m : Memories} {p : RustPool} (O : Orderly w
 
   pub take-agrees : (destination : List ℕ) → refusal (takeStep w r (length destination) .answer) ≡ 0
       → let c = takeStep w r (length destination) in
-      AsRust (rust-take w p) (took (sliceOf (c .answer) (taking destination c .destination))) (taking destination c)
+      AsRust (rust-take w p) (took (sliceOf (values (c .answer)) (taking destination c .destination))) (taking destination c)
   unfolding takeStep
   take-agrees destination u =
       rw (T .mirrors .is)
@@ -325,12 +326,12 @@ module _ {w : ℕ} {r : BufferPool} {m : Memories} {p : RustPool} (O : Orderly w
   reserving t len = outcome (reserveOn t r (place w r len)) (pick t m (perform (place w r len .moves) m)) []
 
   pub reserve-agrees : (k len : ℕ) → let o = reserving (tooLong (place w r len) len) len in
-      refusal (o .call .answer) ≡ 0 → AsRust (rust-reserve w (suc (suc (suc k))) p len) (replyOf (o .call .answer)) o
+      refusal (o .call .answer) ≡ 0 → AsRust (rust-reserve w (suc (suc (suc k))) p len) (replyOf (values (o .call .answer))) o
   unfolding reserveOn refusal
   reserve-agrees k len = go (tooLong (place w r len) len) refl
     where
       go : (t : Bool) → tooLong (place w r len) len ≡ t → refusal (reserving t len .call .answer) ≡ 0
-          → AsRust (rust-reserve w (suc (suc (suc k))) p len) (replyOf (reserving t len .call .answer)) (reserving t len)
+          → AsRust (rust-reserve w (suc (suc (suc k))) p len) (replyOf (values (reserving t len .call .answer))) (reserving t len)
       go true e u = absurd (omega (arith, u))
       go false e u =
           let S : Sized r (heapOf r m) = (pool-size, T .mirrors .heap-size) in
@@ -351,12 +352,7 @@ pub new-as-rust : (w : ℕ) (m : Memories) → Unrefused (new w m) → Stands (n
 unfolding new refusal rust-new
 new-as-rust w m = go (ltb byteLimit (length (m .pool)) || ltb byteLimit (length (m .overflow)))
   where
-    made : Bool → Outcome
-    made t =
-        pick t (outcome (called (newRecord w 0 0) (Refused 3)) m [])
-        (outcome (called (newRecord w (length (m .pool)) (length (m .overflow))) Done) (memories (replicate (length (m .pool)) 0) (m .overflow)) [])
-
-    go : (t : Bool) → Unrefused (made t) → Stands (made t .call .pool) (made t .memory) (rust-new w (length (m .pool)))
+    go : (t : Bool) → Unrefused (newOn t w m) → Stands (newOn t w m .call .pool) (newOn t w m .memory) (rust-new w (length (m .pool)))
     go true u = absurd (omega (arith, u))
     go false u = stands (length-replicate (length (m .pool)) 0, (refl, omega arith)) 0 refl (λ e. refl)
 
@@ -367,11 +363,11 @@ worked w r m destination o = unguarded numberOf (λ n. outcome (refused r n) m d
 
 module _ (w : ℕ) (r : BufferPool) (m : Memories) (p : RustPool) (T : Stands r m p) where
   pub reserve-as-rust : (k len : ℕ) → let o = reserve w r m len in
-      Unrefused o → AsRust (rust-reserve w (suc (suc (suc k))) p len) (replyOf (o .call .answer)) o
+      Unrefused o → AsRust (rust-reserve w (suc (suc (suc k))) p len) (replyOf (values (o .call .answer))) o
   unfolding reserve reserveStep
   reserve-as-rust k len u =
       let W = worked w r m [] (outcome (reserveStep w r len) (pick (tooLong (place w r len) len) m (perform (place w r len .moves) m)) []) u in
-      subst (λ (o : Outcome). AsRust (rust-reserve w (suc (suc (suc k))) p len) (replyOf (o .call .answer)) o) (W .is)
+      subst (λ (o : Outcome). AsRust (rust-reserve w (suc (suc (suc k))) p len) (replyOf (values (o .call .answer))) o) (W .is)
       (reserve-agrees (W .orderly) T k len (W .unrefused))
 
   pub commit-as-rust : (n : ℕ) → Unrefused (commit w r m n) → AsRust (rust-commit p n) (λ q. q) (commit w r m n)
@@ -387,12 +383,12 @@ module _ (w : ℕ) (r : BufferPool) (m : Memories) (p : RustPool) (T : Stands r 
       subst (λ (o : Outcome). AsRust (done (rust-truncate p n)) (λ q. q) o) (W .is) (truncate-agrees (W .orderly) T n)
 
   pub take-as-rust : (destination : List ℕ) → let o = taken w r m destination in
-      Unrefused o → AsRust (rust-take w p) (took (sliceOf (o .call .answer) (o .destination))) o
+      Unrefused o → AsRust (rust-take w p) (took (sliceOf (values (o .call .answer)) (o .destination))) o
   unfolding taken copiedOut
   take-as-rust destination u =
       let c = takeStep w r (length destination) in
-      let W = worked w r m destination (copiedOut c r m destination (copiedLength (c .answer))) u in
-      subst (λ (o : Outcome). AsRust (rust-take w p) (took (sliceOf (o .call .answer) (o .destination))) o) (W .is)
+      let W = worked w r m destination (copiedOut c r m destination (values (c .answer) .length)) u in
+      subst (λ (o : Outcome). AsRust (rust-take w p) (took (sliceOf (values (o .call .answer)) (o .destination))) o) (W .is)
       (take-agrees (W .orderly) T destination (W .unrefused))
 
   pub release-as-rust : (h : Handle) → Unrefused (release w r m h) → AsRust (rust-release w p (h .slot)) (λ q. q) (release w r m h)

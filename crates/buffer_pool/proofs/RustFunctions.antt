@@ -1,4 +1,4 @@
--- What each function of the Rust gives on a ready record: document 01's word for it, and no panic. Every index is that of a
+-- What each function of the Rust gives on a ready record: the SPECIFICATION's word for it, and no panic. Every index is that of a
 -- slot, every range lies in the pool, and every difference is one. Assumes nothing.
 use mathlib.Core.Path.{_≡_, refl, sym, ap, _∙_}
 use mathlib.Core.Bool.{Bool, true, false, _&&_, _||_}
@@ -23,7 +23,7 @@ use Rattle.buffer_pool.specs.declared.buffer_pool.PoolMode.the-variants.
 use Rattle.buffer_pool.specs.Record.{after}
 use Rattle.buffer_pool.specs.Placing.{drops, clearable, tailStart, tailFits, tailCleared, frontSlots, frontBytes, headFits, headCleared, backFits, frontFits, frontLast, frontStart, shorter, frontCleared}
 use Rattle.buffer_pool.specs.Sound.{Ready, InFront}
-use Rattle.buffer_pool.specs.Rust.{done, then, with, Result, ok, err, InnerMemory, Backed, backed, Fronted, fronted, back, raw, used-to, in-bounds, raw-offset-from-len, front-end-of, front-end, copy-within, move-raw-on, move-raw-at-offset, try-change-len, has-tail-capacity, has-capacity-until-offset, reserve-raw, element-to-drop, tail-is-clearable, back-offset, clear-tail-to, try-clear-tail-on, try-clear-tail-unchecked, boundary, try-clear-head-on, try-clear-head, clear-unchecked, back-has-capacity, back-offers, back-cleared, back-reserve, front-drop-to, front-try-clear-tail-on, front-try-clear-tail, front-cleared, front-clear, front-reserve}
+use Rattle.buffer_pool.specs.Rust.{done, then, with, Result, ok, err, InnerMemory, Backed, backed, Fronted, fronted, raw, used-to, in-bounds, raw-offset-from-len, front-end-of, front-end, copy-within, move-raw-on, move-raw-at-offset, try-change-len, has-tail-capacity, has-capacity-until-offset, reserve-raw, element-to-drop, tail-is-clearable, back-offset, clear-tail-to, try-clear-tail-on, try-clear-tail-unchecked, boundary, try-clear-head-on, try-clear-head, clear-unchecked, back-has-capacity, back-offers, back-cleared, back-reserve, front-drop-to, front-try-clear-tail-on, front-try-clear-tail, front-cleared, front-clear, front-reserve}
 use Rattle.buffer_pool.specs.AsRust.{backOf, innerOf}
 use Rattle.buffer_pool.proofs.Rules.{clear-drops, clear-full, tail-room, tail-fits, front-start}
 use Rattle.buffer_pool.proofs.HeapMoves.{moved-none, length-moved}

@@ -1,8 +1,7 @@
 -- The last live front slot, from what the code of slice.rt knows where it returns. Assumes nothing.
-use mathlib.Core.Path.{_≡_, refl, sym, ap, _∙_}
-use Prim.Native.Nat.{ℕ, zero, suc, _-_, _/_, _^_, _≤_, _<_}
+use mathlib.Core.Path.{_≡_, refl, ap, _∙_}
+use Prim.Native.Nat.{ℕ, _-_, _/_, _^_, _≤_, _<_}
 use native.Mathlib.Omega.{arith}
-use native.Mathlib.Nat.{eq-zero-or-pos}
 use lib.Count.{trailingZeros, trailing-of-zero}
 use Rattle.laws.specs.Live.{lastLive}
 use Rattle.laws.proofs.Slots.{last-zeros, zeros-below}

@@ -12,7 +12,7 @@ use Rattle.laws.proofs.Tests.{not-true, not-false}
 use Rattle.laws.proofs.Slots.{none-above}
 use Rattle.buffer_pool.specs.declared.sound.Bounds.{Bounds}
 use Rattle.buffer_pool.specs.declared.sound.Passed.{Passed}
-use Rattle.buffer_pool.specs.SlotPass.{passed, slotSound, slotPass, passes}
+use Rattle.buffer_pool.specs.SlotPass.{slotSound, slotPass, passes}
 
 module _ (starts lengths : List ℕ) (live : ℕ) (b : Bounds) where
   module _ (i end : ℕ) (l : Bool) (e : l ≡ liveAt 8 live (i + 1)) where

@@ -1,4 +1,4 @@
--- Soundness is an invariant, and what it gives: a new pool is sound, every call on a sound record leaves a sound one,
+-- Soundness is an invariant, and what it gives: a new pool is sound, every record step on a sound record leaves a sound one,
 -- refused or not, and in a sound record no range leaves its memory or overlaps another. Each statement is proved for the
 -- propositions of Sound.antt in the other files; here it is said of the test. Assumes nothing.
 use mathlib.Core.Path.{_≡_}

@@ -2,23 +2,22 @@
 -- over the slots is the test of Soundness.antt. Assumes nothing.
 use mathlib.Core.Path.{_≡_, refl, sym, ap, ap₂, _∙_}
 use mathlib.Core.Bool.{Bool, true, false, not, _&&_, _||_}
-use mathlib.Core.List.{List}
-use Prim.Native.Nat.{ℕ, zero, suc, _+_, _-_, _^_, _≤_, _<_}
+use Prim.Native.Nat.{ℕ, zero, suc, _+_, _-_, _≤_, _<_}
 use native.Mathlib.Nat.{add-zero}
 use native.Mathlib.Omega.{arith}
 use lib.Dec.{leb, ltb, eqb}
 use lib.ListN.{length, getD}
-use borrow.Author.Tests.{lt-ltb, le-ltb, lt-leb, le-leb, eq-eqb, ne-eqb, leb-true, eqb-true, eqb-false}
+use borrow.Author.Tests.{lt-ltb, le-ltb, lt-leb, le-leb, eq-eqb, ne-eqb, leb-true}
 use Rattle.laws.specs.Tests.{pick, implies, every}
 use Rattle.laws.specs.Live.{liveAt, lives}
-use Rattle.laws.proofs.Tests.{both-true, no-true, not-true, not-false}
+use Rattle.laws.proofs.Tests.{both-true, not-true, not-false}
 use Rattle.buffer_pool.specs.declared.buffer_pool.BufferPool.{BufferPool}
 use Rattle.buffer_pool.specs.declared.buffer_pool.PoolFront.{PoolFront}
 use Rattle.buffer_pool.specs.declared.buffer_pool.PoolMode.{PoolMode}
 use Rattle.buffer_pool.specs.declared.buffer_pool.PoolMode.the-variants.{Back, Front, Alloc}
 use Rattle.buffer_pool.specs.declared.sound.Bounds.{Bounds}
 use Rattle.buffer_pool.specs.declared.sound.Numbers.{Numbers}
-use Rattle.buffer_pool.specs.Record.{byteLimit, startAt, after}
+use Rattle.buffer_pool.specs.Record.{startAt, after}
 use Rattle.buffer_pool.specs.Soundness.{shaped, limited, counted, rising, framedWithin, backNumbers, backSound, besides, frontNumbers, frontSound, allocSound, modeSound, orderly, sound}
 use Rattle.buffer_pool.specs.SlotPass.{passed, beside, bounds, boundsOf, slotSound, slotPass, passes, numbersSound}
 

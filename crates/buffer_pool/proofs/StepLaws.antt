@@ -1,8 +1,7 @@
 -- The record steps, from what the code of steps.rt knows where it returns. Assumes nothing.
 use mathlib.Core.Path.{_≡_, refl, sym, ap, _∙_, subst}
-use mathlib.Core.Bool.{Bool, true, false, not, _&&_}
-use mathlib.Core.List.{List}
-use Prim.Native.Nat.{ℕ, zero, suc, _+_, _-_, _≤_, _<_, min}
+use mathlib.Core.Bool.{Bool, true, false, not}
+use Prim.Native.Nat.{ℕ, _+_, _-_, _≤_, _<_, min}
 use native.Mathlib.Numerals.{add-one}
 use native.Mathlib.Omega.{arith}
 use mir.Val.{Fits}
@@ -20,12 +19,13 @@ use Rattle.buffer_pool.specs.declared.buffer_pool.PoolMode.{PoolMode}
 use Rattle.buffer_pool.specs.declared.buffer_pool.PoolMode.the-variants.{Back, Front, Alloc}
 use Rattle.buffer_pool.specs.declared.buffer_pool.Memory.the-variants.{Pool, Overflow}
 use Rattle.buffer_pool.specs.declared.buffer_pool.Place.{Place}
-use Rattle.buffer_pool.specs.declared.buffer_pool.Answer.the-variants.{Done, Framed, Taken, Copied, Refused}
+use Rattle.buffer_pool.specs.declared.buffer_pool.Answer.the-variants.{Done, Framed, Taken, Copied}
 use Rattle.buffer_pool.specs.declared.buffer_pool.Called.{Called}
 use Rattle.buffer_pool.specs.Record.{startAt, front, framed, marked}
 use Rattle.buffer_pool.specs.Placing.{isAlloc}
 use Rattle.buffer_pool.specs.Sound.{Orderly, InBack, InFront, InAlloc, InMode}
-use Rattle.buffer_pool.specs.Steps.{refusal, called, refused, at, frame, frameOf, resized, reframed, commitStep, truncateStep, handedOut, pooled, copiedOutOn, takeOn, takeStep, mostSerials, names, releaseStep}
+use Rattle.buffer_pool.specs.Values.{refusal}
+use Rattle.buffer_pool.specs.Steps.{called, refused, at, frame, frameOf, resized, reframed, commitStep, truncateStep, handedOut, pooled, copiedOutOn, takeOn, takeStep, mostSerials, names, releaseStep}
 
 -- ---- The frame, by the mode
 

@@ -1,9 +1,8 @@
 -- Decisions that move no byte: a frame that fits where it is, and a reset with an empty frame. Assumes nothing.
 use mathlib.Core.Path.{_≡_, refl, sym, ap, _∙_}
 use mathlib.Core.Bool.{Bool, true, false, not, _&&_, _||_}
-use mathlib.Core.List.{List, [], _∷_, _++_}
-use Prim.Native.Nat.{ℕ, zero, suc, _+_, _≤_, _<_, max}
-use native.Mathlib.Nat.{add-zero}
+use mathlib.Core.List.{[], _∷_}
+use Prim.Native.Nat.{ℕ, _+_, _≤_, _<_, max}
 use native.Mathlib.Omega.{arith}
 use lib.Dec.{leb, ltb, eqb}
 use lib.Count.{leadingZeros, trailingZeros}
@@ -13,9 +12,9 @@ use Rattle.buffer_pool.specs.declared.buffer_pool.BufferPool.{BufferPool
 use Rattle.buffer_pool.specs.declared.buffer_pool.PoolFront.{PoolFront}
 use Rattle.buffer_pool.specs.declared.buffer_pool.PoolMode.{PoolMode}
 use Rattle.buffer_pool.specs.declared.buffer_pool.PoolMode.the-variants.{Back, Front, Alloc}
-use Rattle.buffer_pool.specs.Record.{placed, framed}
-use Rattle.buffer_pool.specs.Moves.{Move, Grow, within}
-use Rattle.buffer_pool.specs.Placing.{Decision, Layer, stay, first, grows, finish, tailFits, headFits, backFits, backOn, backLayer, frontFits, frontOn, frontLayer, stays, allocOn, allocLayer, layer, placeOf, isAlloc, resets, resetOn, resetMoves, reset, place, tooLong}
+use Rattle.buffer_pool.specs.Record.{placed}
+use Rattle.buffer_pool.specs.Moves.{Grow, within}
+use Rattle.buffer_pool.specs.Placing.{Decision, stay, first, tailFits, headFits, backFits, backOn, backLayer, frontFits, frontOn, frontLayer, stays, allocOn, allocLayer, layer, placeOf, isAlloc, resets, resetOn, resetMoves, reset, place}
 use Rattle.buffer_pool.specs.Deciding.{keepsIn, fitsIn, settled, startsOver, growingHere, growing, keptTo, offered}
 
 -- ---- What the code tests

@@ -3,7 +3,7 @@
 use mathlib.Core.Path.{_≡_}
 use mathlib.Core.Bool.{true}
 use mathlib.Core.List.{List, [], _∷_}
-use Prim.Native.Nat.{ℕ, _+_}
+use Prim.Native.Nat.{ℕ, zero, suc, _+_}
 use lib.Dec.{ltb}
 use lib.ListN.{length, take, drop, set}
 use Rattle.laws.specs.Tests.{pick}
@@ -13,11 +13,10 @@ use Rattle.buffer_pool.specs.declared.buffer_pool.PoolMode.{PoolMode}
 use Rattle.buffer_pool.specs.declared.buffer_pool.Memory.{Memory}
 use Rattle.buffer_pool.specs.declared.buffer_pool.Memory.the-variants.{Pool, Overflow}
 use Rattle.buffer_pool.specs.declared.buffer_pool.Place.{Place}
-use Rattle.buffer_pool.specs.declared.buffer_pool.Answer.{Answer}
-use Rattle.buffer_pool.specs.declared.buffer_pool.Answer.the-variants.{Done, Reserved, Framed, Taken, Copied, Refused}
 use Rattle.buffer_pool.specs.Moves.{Memories, memories, Move, Within, In, Down, Out, Grow}
 use Rattle.buffer_pool.specs.Placing.{Decision, isAlloc}
-use Rattle.buffer_pool.specs.Steps.{refusal, at, reservation}
+use Rattle.buffer_pool.specs.Values.{Values, refusal}
+use Rattle.buffer_pool.specs.Steps.{reservation}
 use Rattle.buffer_pool.specs.Calls.{Outcome}
 use Rattle.buffer_pool.specs.Rust.{Run, done, PoolBack, InnerMemory, RustPool, Slice, Pooled, Heap, Reply, reply, back, raw, system, pool, resized}
 
@@ -81,22 +80,18 @@ AsRust run value o = Leaves run value (Stands (o .call .pool) (o .memory))
 abbrev pub decided : Decision → RustPool → Reply
 decided d p = reply p (reservation (d .next)) (d .changes)
 
--- what the Rust gives where we answer so: of a reserve, and of a take with the destination that it leaves
-abbrev pub replyOf : Answer → RustPool → Reply
-replyOf Done p = reply p (at Pool 0 0) 0
-replyOf (Reserved place changes) p = reply p place changes
-replyOf (Framed place) p = reply p (at Pool 0 0) 0
-replyOf (Taken h) p = reply p (at Pool 0 0) 0
-replyOf (Copied n) p = reply p (at Pool 0 0) 0
-replyOf (Refused number) p = reply p (at Pool 0 0) 0
+-- what the Rust gives where a reserve of ours says so
+abbrev pub replyOf : Values → RustPool → Reply
+replyOf v p = reply p (v .place) (v .changes)
 
-abbrev pub sliceOf : Answer → List ℕ → Slice
-sliceOf Done destination = Heap []
-sliceOf (Reserved place changes) destination = Heap []
-sliceOf (Framed place) destination = Heap []
-sliceOf (Taken h) destination = Pooled (h .slot) (h .start) (h .length)
-sliceOf (Copied n) destination = Heap (take n destination)
-sliceOf (Refused number) destination = Heap []
+-- what the Rust gives where a take of ours says so and leaves this destination: by the handle's slot, a slice of the pool, or with
+-- slot 0 the bytes that were copied
+abbrev pub sliceIn : ℕ → Values → List ℕ → Slice
+sliceIn zero v destination = Heap (take (v .length) destination)
+sliceIn (suc k) v destination = Pooled (v .handle .slot) (v .handle .start) (v .handle .length)
+
+abbrev pub sliceOf : Values → List ℕ → Slice
+sliceOf v destination = sliceIn (v .handle .slot) v destination
 
 -- a byte written at index i of what the Rust hands out for this place: a `&mut [u8]` of `reserve` or `frame_mut`, or a slice
 abbrev pub rustWrittenIn : Memory → RustPool → ℕ → ℕ → RustPool

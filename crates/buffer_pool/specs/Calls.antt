@@ -1,9 +1,9 @@
--- The calls, for every record, handle, length and lent memory: answer, record and every lent byte, on refusal as on success.
--- The contracts of the public functions are equations with these. w is the slot count.
-use mathlib.Core.Bool.{Bool, true, false, not, _&&_, _||_}
-use mathlib.Core.List.{List, [], _∷_}
-use Prim.Native.Nat.{ℕ, zero, suc, _+_, _≤_}
-use lib.Dec.{leb, ltb, eqb}
+-- The calls, SPECIFICATION 7, for every record, handle, length and lent memory: answer, record and every lent byte, on refusal as
+-- on success. The contracts of the public functions are equations with these. w is the slot count.
+use mathlib.Core.Bool.{Bool, not, _&&_, _||_}
+use mathlib.Core.List.{List, []}
+use Prim.Native.Nat.{ℕ, _+_, _≤_}
+use lib.Dec.{ltb, eqb}
 use lib.ListN.{length, replicate, set}
 use Rattle.laws.specs.Tests.{pick}
 use Rattle.laws.specs.Lists.{part, copied}
@@ -13,14 +13,14 @@ use Rattle.buffer_pool.specs.declared.buffer_pool.Memory.{Memory}
 use Rattle.buffer_pool.specs.declared.buffer_pool.Memory.the-variants.{Pool, Overflow}
 use Rattle.buffer_pool.specs.declared.buffer_pool.Place.{Place}
 use Rattle.buffer_pool.specs.declared.buffer_pool.View.{View}
-use Rattle.buffer_pool.specs.declared.buffer_pool.Answer.{Answer}
-use Rattle.buffer_pool.specs.declared.buffer_pool.Answer.the-variants.{Done, Refused}
+use Rattle.buffer_pool.specs.declared.buffer_pool.Answer.the-variants.{Done}
 use Rattle.buffer_pool.specs.declared.buffer_pool.Called.{Called}
 use Rattle.buffer_pool.specs.Record.{byteLimit, newRecord}
 use Rattle.buffer_pool.specs.Moves.{Memories, memories, perform}
-use Rattle.buffer_pool.specs.Placing.{Decision, place, tooLong}
+use Rattle.buffer_pool.specs.Placing.{place, tooLong}
 use Rattle.buffer_pool.specs.Soundness.{sound}
-use Rattle.buffer_pool.specs.Steps.{called, refused, at, frame, reservation, reserveStep, commitStep, truncateStep, takeStep, copiedLength, takeMoves, names, releaseStep}
+use Rattle.buffer_pool.specs.Values.{noPlace, values}
+use Rattle.buffer_pool.specs.Steps.{called, refused, at, frame, reservation, reserveStep, commitStep, truncateStep, takeStep, takeMoves, names, releaseStep}
 
 -- what a call leaves: record and answer, the two memories, and a take's destination ([] for the other calls)
 pub record Outcome : Type 0 where
@@ -33,7 +33,7 @@ outcome call memory destination = record { call = call; memory = memory; destina
 
 -- ---- What turns every call away: 1, then 2
 
--- cause 2: "a lent memory's length is not the record's"
+-- cause 2 of SPECIFICATION 3.3: "a lent memory's length is not the record's"
 unfoldable pub misfit : BufferPool → Memories → Bool
 misfit r m = not (eqb (length (m .pool)) (r .capacity) && eqb (length (m .overflow)) (r .overflow))
 
@@ -55,14 +55,25 @@ guardedCall w r m destination done = guarded w r m (λ number. outcome (refused 
 
 -- ---- The calls
 
--- cause 3: "either memory above 1,048,576 bytes". "New gives only 3, with the record of a new pool whose two lengths are 0."
-unfoldable pub new : ℕ → Memories → Outcome
-new w m =
-    pick (ltb byteLimit (length (m .pool)) || ltb byteLimit (length (m .overflow)))
-    (outcome (called (newRecord w 0 0) (Refused 3)) m [])
-    (outcome (called (newRecord w (length (m .pool)) (length (m .overflow))) Done) (memories (replicate (length (m .pool)) 0) (m .overflow)) [])
+-- SPECIFICATION 3.5: "A refused new gives the record of a new pool whose two lengths are 0, and changes no byte."
+abbrev pub newRefused : ℕ → Memories → Outcome
+newRefused w m = outcome (refused (newRecord w 0 0) 3) m []
 
--- bytes move only once 4 is excluded
+-- SPECIFICATION 7.1: "every byte of the pool memory becomes 0; the overflow's bytes stay; the record is that of 2.1"
+abbrev pub newDone : ℕ → Memories → Outcome
+newDone w m =
+    outcome (called (newRecord w (length (m .pool)) (length (m .overflow))) Done)
+    (memories (replicate (length (m .pool)) 0) (m .overflow)) []
+
+-- is a memory too long?
+abbrev pub newOn : Bool → ℕ → Memories → Outcome
+newOn long w m = pick long (newRefused w m) (newDone w m)
+
+-- cause 3: "either memory has more than 1,048,576 bytes"
+unfoldable pub new : ℕ → Memories → Outcome
+new w m = newOn (ltb byteLimit (length (m .pool)) || ltb byteLimit (length (m .overflow))) w m
+
+-- SPECIFICATION 6.1: bytes move only once 4 is excluded
 unfoldable pub reserve : ℕ → BufferPool → Memories → ℕ → Outcome
 reserve w r m len =
     guardedCall w r m [] (outcome (reserveStep w r len) (pick (tooLong (place w r len) len) m (perform (place w r len .moves) m)) [])
@@ -81,7 +92,7 @@ copiedOut call r m destination n =
 unfoldable pub take : ℕ → BufferPool → Memories → List ℕ → Outcome
 take w r m destination =
     guardedCall w r m destination
-    (copiedOut (takeStep w r (length destination)) r m destination (copiedLength (takeStep w r (length destination) .answer)))
+    (copiedOut (takeStep w r (length destination)) r m destination (values (takeStep w r (length destination) .answer) .length))
 
 unfoldable pub release : ℕ → BufferPool → Memories → Handle → Outcome
 release w r m h = guardedCall w r m [] (outcome (releaseStep w r h) m [])
@@ -91,9 +102,10 @@ release w r m h = guardedCall w r m [] (outcome (releaseStep w r h) m [])
 abbrev pub shown : Place → View
 shown place = record { number = 0; place = place }
 
--- "A refused view is an empty part of the pool memory; a call with the same arguments tells its number, or 0."
+-- SPECIFICATION 3.6: "A refused view is an empty place: the pool memory, start 0, length 0. A call with the arguments of the view
+-- tells its refusal, or 0."
 abbrev pub hidden : ℕ → View
-hidden number = record { number = number; place = at Pool 0 0 }
+hidden number = record { number = number; place = noPlace }
 
 unfoldable pub frameView : ℕ → BufferPool → Memories → View
 frameView w r m = guarded w r m hidden (shown (frame r))
@@ -112,7 +124,7 @@ memoryAt Overflow m = m .overflow
 unfoldable pub bytesAt : Memories → Place → List ℕ
 bytesAt m p = part (memoryAt (p .memory) m) (p .start) (p .length)
 
--- "A write sets one byte of a view"; past the view's end, none
+-- SPECIFICATION 7.10: a write "sets one byte of a view". "At or past the view's end it sets none."
 abbrev pub writtenIn : Memory → Memories → ℕ → ℕ → Memories
 writtenIn Pool m i byte = memories (set (m .pool) i byte) (m .overflow)
 writtenIn Overflow m i byte = memories (m .pool) (set (m .overflow) i byte)

@@ -1,8 +1,7 @@
--- Document 01's [P] cases as a table of calls and of what each must show, and how the table is run on the definitions and on
+-- The cases of SPECIFICATION 11 as a table of calls and of what each must show, and how the table is run on the definitions and on
 -- the Rust's. proofs/Cases.antt has the theorem.
-use mathlib.Core.Bool.{Bool, true, false}
 use mathlib.Core.List.{List, [], _∷_, _++_, map}
-use Prim.Native.Nat.{ℕ, zero, suc, _+_, _-_}
+use Prim.Native.Nat.{ℕ, _+_, _-_}
 use lib.ListN.{length, replicate}
 use Rattle.laws.specs.Lists.{part, copied}
 use Rattle.buffer_pool.specs.declared.slice.Handle.{Handle}
@@ -12,33 +11,33 @@ use Rattle.buffer_pool.specs.declared.buffer_pool.PoolMode.the-variants.
 use Rattle.buffer_pool.specs.declared.buffer_pool.Memory.{Memory}
 use Rattle.buffer_pool.specs.declared.buffer_pool.Memory.the-variants.{Pool, Overflow}
 use Rattle.buffer_pool.specs.declared.buffer_pool.Place.{Place}
-use Rattle.buffer_pool.specs.declared.buffer_pool.Answer.{Answer}
-use Rattle.buffer_pool.specs.declared.buffer_pool.Answer.the-variants.{Done, Reserved, Framed, Taken, Copied, Refused}
+use Rattle.buffer_pool.specs.declared.buffer_pool.Answer.the-variants.{Done}
 use Rattle.buffer_pool.specs.Record.{slotCount, startAt}
 use Rattle.buffer_pool.specs.Moves.{Memories, memories}
-use Rattle.buffer_pool.specs.Steps.{at, reservation, refusal}
+use Rattle.buffer_pool.specs.Values.{values}
+use Rattle.buffer_pool.specs.Steps.{at, reservation}
 use Rattle.buffer_pool.specs.Calls as calls
 use Rattle.buffer_pool.specs.Calls.{Outcome, bytesAt}
-use Rattle.buffer_pool.specs.Rust.{Run, done, panic, RustPool, Reply, Took, Slice, Pooled, Heap, pool, raw, system, rust-new, rust-reserve, rust-commit, rust-truncate, rust-take, rust-release}
+use Rattle.buffer_pool.specs.Rust.{Run, done, panic, RustPool, Reply, Took, pool, raw, system, rust-new, rust-reserve, rust-commit, rust-truncate, rust-take, rust-release}
 
 -- ---- The table's words
 
 -- a call of the table. `Release p` gives back the slice last taken as slot p; `Write` writes bytes from the reservation's start on.
-pub data Call : Type 0 where
-  Reserve : ℕ → Call
-  Write : List ℕ → Call
-  Commit : ℕ → Call
-  Truncate : ℕ → Call
-  Take : Call
-  Release : ℕ → Call
+pub data CaseCall : Type 0 where
+  Reserve : ℕ → CaseCall
+  Write : List ℕ → CaseCall
+  Commit : ℕ → CaseCall
+  Truncate : ℕ → CaseCall
+  Take : CaseCall
+  Release : ℕ → CaseCall
 
 pub data Letter : Type 0 where
   A : Letter
   B : Letter
   F : Letter
 
--- what a call shows: its refusal number or 0, the mode, the live slots, start, length and count of mode changes of its
--- answer, by how much the frame moved up, and the reservation's bytes
+-- what a call shows: its refusal number or 0, the mode, the live slots, start and length of the place in its answer and its
+-- count of mode changes, by how much the frame moved up, and the reservation's bytes
 pub data Fact : Type 0 where
   Number : ℕ → Fact
   Mode : Letter → Fact
@@ -49,17 +48,17 @@ pub data Fact : Type 0 where
   Moved : ℕ → Fact
   Shows : List ℕ → Fact
 
--- a call with the facts that document 01 states of it
+-- a call with the facts that the SPECIFICATION states of it
 pub record Line : Type 0 where
-  pub call : Call
+  pub call : CaseCall
   pub facts : List Fact
 
 infix 4 _▸_
-abbrev pub _▸_ : Call → List Fact → Line
+abbrev pub _▸_ : CaseCall → List Fact → Line
 call ▸ facts = record { call = call; facts = facts }
 
--- calls of which document 01 states nothing
-abbrev pub quietly : List Call → List Line
+-- calls of which the SPECIFICATION states nothing
+abbrev pub quietly : List CaseCall → List Line
 quietly = map (λ call. call ▸ [])
 
 -- capacity, overflow, and the calls on a new pool
@@ -74,51 +73,50 @@ new capacity overflow lines = record { capacity = capacity; overflow = overflow;
 -- ---- The table
 
 -- a slice of so many bytes taken
-abbrev pub slice : ℕ → List Call
+abbrev pub slice : ℕ → List CaseCall
 slice n = Reserve n ∷ Commit n ∷ Take ∷ []
 
--- '"Octet" is capacity 17, overflow 20, eight slices of 2 bytes taken.'
+-- "*Octet* is capacity 17, overflow 20, with eight slices of 2 bytes taken"
 unfoldable pub octet : List Line → Case
 octet lines =
     new 17 20 (quietly (slice 2 ++ slice 2 ++ slice 2 ++ slice 2 ++ slice 2 ++ slice 2 ++ slice 2 ++ slice 2) ++ lines)
 
--- "Octet, slots 1 and 2 released: reserve 3, commit 3"
+-- octet, then d 1, d 2, r 3, c 3
 unfoldable pub octetInFront : List Line → Case
 octetInFront lines = octet (quietly (Release 1 ∷ Release 2 ∷ Reserve 3 ∷ Commit 3 ∷ []) ++ lines)
 
 unfoldable pub table : List Case
 table =
-    -- Slot 1 is 0x80; slot 8 is 0x01.
+    -- 11.1, 11.2: slot 1 is 0x80; slot 8 is 0x01
     new 17 20 (quietly (Reserve 2 ∷ Commit 2 ∷ []) ++ ((Take ▸ Live 0x80 ∷ []) ∷ []))
     ∷ octet (quietly (Release 1 ∷ Release 2 ∷ Release 3 ∷ Release 4 ∷ Release 5 ∷ Release 6 ∷ []) ++ ((Release 7 ▸ Live 0x01 ∷ []) ∷ []))
-    -- Capacity 0, overflow 4: reserve 0 gives B, start 0; reserve 1 gives A, as does reserve 0 after it.
+    -- 11.3 to 11.5
     ∷ new 0 4 ((Reserve 0 ▸ Mode B ∷ Start 0 ∷ []) ∷ (Reserve 1 ▸ Mode A ∷ []) ∷ (Reserve 0 ▸ Mode A ∷ []) ∷ [])
-    -- Capacity 16, overflow 20, new: reserve 16 gives B; on another new pool reserve 17 gives A.
+    -- 11.6, 11.7
     ∷ new 16 20 ((Reserve 16 ▸ Mode B ∷ []) ∷ [])
     ∷ new 16 20 ((Reserve 17 ▸ Mode A ∷ []) ∷ [])
-    -- Capacity 16, overflow 20, reserve 6: commit 7 is refused with 5; commit 6 done; then commit 1 is 5 and commit 0 done.
-    -- Then, with that frame of 6, reserve 4, truncate 9: length 6, commit 1 is 5.
+    -- 11.8 to 11.13
     ∷ new 16 20
     ((Reserve 6 ▸ [])
     ∷ (Commit 7 ▸ Number 5 ∷ []) ∷ (Commit 6 ▸ Number 0 ∷ []) ∷ (Commit 1 ▸ Number 5 ∷ []) ∷ (Commit 0 ▸ Number 0 ∷ [])
     ∷ (Reserve 4 ▸ []) ∷ (Truncate 9 ▸ Length 6 ∷ []) ∷ (Commit 1 ▸ Number 5 ∷ []) ∷ [])
-    -- Octet, slots 1 and 2 released: reserve 4 gives F, start 0, one change.
+    -- 11.14: F, start 0, one change
     ∷ octet ((Release 1 ▸ []) ∷ (Release 2 ▸ []) ∷ (Reserve 4 ▸ Mode F ∷ Start 0 ∷ Changes 1 ∷ []) ∷ [])
-    -- The same with reserve 5: A, start 0, two changes.
+    -- 11.15: A, start 0, two changes
     ∷ octet ((Release 1 ▸ []) ∷ (Release 2 ▸ []) ∷ (Reserve 5 ▸ Mode A ∷ Start 0 ∷ Changes 2 ∷ []) ∷ [])
-    -- .. release slots 7 and 8, reserve 2: B, reservation start 15, frame moved by +12.
+    -- 11.16: B, reservation start 15, the frame moved by 12
     ∷ octetInFront ((Release 7 ▸ []) ∷ (Release 8 ▸ []) ∷ (Reserve 2 ▸ Mode B ∷ Start 15 ∷ Moved 12 ∷ []) ∷ [])
-    -- The same with reserve 3 last: A, reservation start 3.
+    -- 11.17: A, reservation start 3
     ∷ octetInFront ((Release 7 ▸ []) ∷ (Release 8 ▸ []) ∷ (Reserve 3 ▸ Mode A ∷ Start 3 ∷ []) ∷ [])
-    -- .. take; slots 3 to 8 released; reserve 2 gives B, start 3. Release the last slice; reserve 1 gives start 3, with no reset.
+    -- 11.18, 11.19: B, start 3; then start 3 again, as there is no reset
     ∷ octetInFront
     (quietly (Take ∷ Release 3 ∷ Release 4 ∷ Release 5 ∷ Release 6 ∷ Release 7 ∷ Release 8 ∷ [])
     ++ ((Reserve 2 ▸ Mode B ∷ Start 3 ∷ []) ∷ (Release 1 ▸ Live 0 ∷ []) ∷ (Reserve 1 ▸ Start 3 ∷ []) ∷ []))
-    -- Capacity 0, overflow 8: reserve 5, write abcde, commit 2, take; reserve 4 shows c, d, e, 0.
+    -- 11.20: the reservation shows c, d, e, 0
     ∷ new 0 8 (quietly (Reserve 5 ∷ Write (97 ∷ 98 ∷ 99 ∷ 100 ∷ 101 ∷ []) ∷ Commit 2 ∷ Take ∷ []) ++ ((Reserve 4 ▸ Shows (99 ∷ 100 ∷ 101 ∷ 0 ∷ []) ∷ []) ∷ []))
     ∷ []
 
--- The same handle released twice: the second is 7. (The Rust's `Slice` is gone with its drop, so this is not of its table.)
+-- 11.21: the same handle released twice. (The Rust's `Slice` is gone with its drop, so this is not of its table.)
 unfoldable pub twice : Case
 twice = new 16 20 (quietly (slice 6) ++ ((Release 1 ▸ Number 0 ∷ []) ∷ (Release 1 ▸ Number 7 ∷ []) ∷ []))
 
@@ -150,23 +148,6 @@ letter Back = B
 letter (Front f) = F
 letter Alloc = A
 
--- the place and the count of changes in an answer
-unfoldable pub placeIn : Answer → Place
-placeIn Done = at Pool 0 0
-placeIn (Reserved p changes) = p
-placeIn (Framed p) = p
-placeIn (Taken h) = at Pool (h .start) (h .length)
-placeIn (Copied n) = at Pool 0 n
-placeIn (Refused number) = at Pool 0 0
-
-unfoldable pub changesIn : Answer → ℕ
-changesIn Done = 0
-changesIn (Reserved p changes) = changes
-changesIn (Framed p) = 0
-changesIn (Taken h) = 0
-changesIn (Copied n) = 0
-changesIn (Refused number) = 0
-
 -- ---- The table run on the definitions
 
 -- a memory of the overflow's length whose bytes are not 0
@@ -182,7 +163,7 @@ writeIn Overflow m start bytes = memories (m .pool) (copied bytes 0 (length byte
 abbrev pub entry : BufferPool → ℕ → Handle
 entry r p = record { slot = p; start = startAt (r .starts) p; length = startAt (r .lengths) p; serial = startAt (r .serials) p }
 
-unfoldable pub play : BufferPool → Memories → Call → Outcome
+unfoldable pub play : BufferPool → Memories → CaseCall → Outcome
 play r m (Reserve n) = calls.reserve slotCount r m n
 play r m (Write bytes) = calls.outcome (record { pool = r; answer = Done }) (writeIn (reservation r .memory) m (reservation r .start) bytes) []
 play r m (Commit n) = calls.commit slotCount r m n
@@ -193,12 +174,12 @@ play r m (Release p) = calls.release slotCount r m (entry r p)
 unfoldable pub see : BufferPool → Outcome → Seen
 see r o =
     record {
-      number = refusal (o .call .answer);
+      number = values (o .call .answer) .number;
       mode = letter (o .call .pool .mode);
       live = o .call .pool .live;
-      start = placeIn (o .call .answer) .start;
-      length = placeIn (o .call .answer) .length;
-      changes = changesIn (o .call .answer);
+      start = values (o .call .answer) .place .start;
+      length = values (o .call .answer) .place .length;
+      changes = values (o .call .answer) .changes;
       moved = o .call .pool .«raw_offset» - r .«raw_offset»;
       bytes = bytesAt (o .memory) (reservation (o .call .pool));
     }
@@ -282,7 +263,7 @@ unfoldable pub released : RustPool → Run RustPool → Watched
 released r (done q) = watched r 0 (at Pool 0 0) 0 q
 released r panic = watched r 99 (at Pool 0 0) 0 r
 
-unfoldable pub rustPlay : RustPool → Call → Watched
+unfoldable pub rustPlay : RustPool → CaseCall → Watched
 rustPlay r (Reserve n) = reserved′ r (rust-reserve slotCount 3 r n)
 rustPlay r (Write bytes) = watched r 0 (at Pool 0 0) 0 (rustWrite (r .mode) r bytes)
 rustPlay r (Commit n) = committed r (rust-commit r n)

@@ -1,10 +1,11 @@
--- What turns a call away: document 01's table, one definition a row, and its order. proofs/OnlyForCause.antt shows that every
--- call is refused with the first of its causes that holds, and only then; proofs/RefusedKeeps.antt that it then leaves everything.
+-- What turns a call away: the table of SPECIFICATION 3.3, one definition a row, and the order of 3.4. proofs/OnlyForCause.antt
+-- shows that every call is refused with the first of its causes that holds, and only then; proofs/RefusedKeeps.antt that it then
+-- leaves everything.
 use mathlib.Core.Path.{_≡_}
 use mathlib.Core.Bool.{Bool, true, false, not, _&&_, _||_}
 use mathlib.Core.List.{List, [], _∷_}
 use mathlib.Core.Logic.{_⊎_}
-use Prim.Native.Nat.{ℕ, zero, suc, _+_}
+use Prim.Native.Nat.{ℕ, suc, _+_}
 use lib.Dec.{leb, ltb, eqb}
 use lib.ListN.{length}
 use Rattle.laws.specs.Tests.{pick}
@@ -13,88 +14,23 @@ use Rattle.buffer_pool.specs.declared.slice.Handle.{Handle}
 use Rattle.buffer_pool.specs.declared.buffer_pool.BufferPool.{BufferPool}
 use Rattle.buffer_pool.specs.declared.buffer_pool.Memory.{Memory}
 use Rattle.buffer_pool.specs.declared.buffer_pool.Memory.the-variants.{Pool, Overflow}
-use Rattle.buffer_pool.specs.declared.buffer_pool.Answer.{Answer}
-use Rattle.buffer_pool.specs.declared.buffer_pool.Answer.the-variants.{Done, Reserved, Framed, Taken, Copied, Refused}
-use Rattle.buffer_pool.specs.declared.buffer_pool.Called.{Called}
 use Rattle.buffer_pool.specs.Record.{byteLimit, startAt}
 use Rattle.buffer_pool.specs.Moves.{Memories}
 use Rattle.buffer_pool.specs.Placing.{mostChanges}
 use Rattle.buffer_pool.specs.Soundness.{sound}
-use Rattle.buffer_pool.specs.Steps.{refusal, called, frame, reservation, mostSerials}
-use Rattle.buffer_pool.specs.declared.buffer_pool.View.{View}
-use Rattle.buffer_pool.specs.Calls.{Outcome, outcome, misfit, reserve, commit, truncate, take, release, frameView, reservationView, sliceView}
+use Rattle.buffer_pool.specs.Steps.{frame, reservation, mostSerials}
+use Rattle.buffer_pool.specs.Calls.{misfit}
 use Rattle.buffer_pool.specs.Rust.{Run, done, panic, Reply, rust-reserve}
 use Rattle.buffer_pool.specs.AsRust.{rustOf, heapOf}
-
--- ---- The calls on a pool
-
--- what a view shows
-pub data Part : Type 0 where
-  TheFrame : Part
-  TheReservation : Part
-  TheSlice : Handle → Part
-
-pub data Call : Type 0 where
-  Reserve : ℕ → Call
-  Commit : ℕ → Call
-  Truncate : ℕ → Call
-  -- with this destination
-  Take : List ℕ → Call
-  Release : Handle → Call
-  -- a view, or the call with the same arguments that tells its number
-  Look : Part → Call
-
-unfoldable pub viewOf : ℕ → BufferPool → Memories → Part → View
-viewOf w r m TheFrame = frameView w r m
-viewOf w r m TheReservation = reservationView w r m
-viewOf w r m (TheSlice h) = sliceView w r m h
-
--- the answer that tells a view's number
-unfoldable pub told : ℕ → Answer
-told zero = Done
-told (suc n) = Refused (suc n)
-
--- what a call answers and leaves; a view leaves everything
-unfoldable pub outcomeOf : ℕ → BufferPool → Memories → Call → Outcome
-outcomeOf w r m (Reserve len) = reserve w r m len
-outcomeOf w r m (Commit n) = commit w r m n
-outcomeOf w r m (Truncate n) = truncate w r m n
-outcomeOf w r m (Take destination) = take w r m destination
-outcomeOf w r m (Release h) = release w r m h
-outcomeOf w r m (Look part) = outcome (called r (told (viewOf w r m part .number))) m []
-
--- the number of its refusal, or 0
-unfoldable pub numberOf : ℕ → BufferPool → Memories → Call → ℕ
-numberOf w r m c = refusal (outcomeOf w r m c .call .answer)
-
--- the destination lent to it
-abbrev pub destinationOf : Call → List ℕ
-destinationOf (Reserve len) = []
-destinationOf (Commit n) = []
-destinationOf (Truncate n) = []
-destinationOf (Take destination) = destination
-destinationOf (Release h) = []
-destinationOf (Look part) = []
-
--- ---- The results
-
--- the answer is a result of the call, by document 01's list: of a reserve the reservation, with the count of mode changes; of a
--- commit and a truncate the frame; of a take a handle, or a copied length
-unfoldable pub Result : Call → Called → Type 0
-Result (Reserve len) c = (changes : ℕ) × (c .answer ≡ Reserved (reservation (c .pool)) changes)
-Result (Commit n) c = c .answer ≡ Framed (frame (c .pool))
-Result (Truncate n) c = c .answer ≡ Framed (frame (c .pool))
-Result (Take destination) c = ((h : Handle) × (c .answer ≡ Taken h)) ⊎ ((n : ℕ) × (c .answer ≡ Copied n))
-Result (Release h) c = c .answer ≡ Done
-Result (Look part) c = c .answer ≡ Done
+use Rattle.buffer_pool.specs.Vocabulary.{Part, TheFrame, TheReservation, TheSlice, Call, Reserve, Commit, Truncate, Take, Release, Look}
 
 -- ---- The causes: 2 is `misfit` of Calls.antt
 
--- 1: "record fails the soundness test"
+-- 1: "the record fails the soundness test"
 unfoldable pub unsound : ℕ → BufferPool → Bool
 unsound w r = not (sound w r)
 
--- 3: "new: either memory above 1,048,576 bytes"
+-- 3: "either memory has more than 1,048,576 bytes"
 unfoldable pub tooLarge : Memories → Bool
 tooLarge m = ltb byteLimit (length (m .pool)) || ltb byteLimit (length (m .overflow))
 
@@ -107,22 +43,22 @@ abbrev pub usesHeap : Run Reply → Bool
 usesHeap (done a) = inOverflow (a .writable .memory)
 usesHeap panic = false
 
--- 4: "Rust, its sums taken as whole numbers that never wrap, would use the heap, and frame length + len exceeds the overflow".
--- The Rust's pool is that of the record and the memories; its `reserve_` calls itself twice at most.
+-- 4: "the Rust would use the heap, and frame length + `len` exceeds the length of the overflow", its sums being those of
+-- SPECIFICATION 1.13. The Rust's pool is that of the record and the memories; its `reserve_` calls itself twice at most.
 unfoldable pub heapTooShort : ℕ → BufferPool → Memories → ℕ → Bool
 heapTooShort w r m len =
     usesHeap (rust-reserve w (suc mostChanges) (rustOf r (heapOf r m) (r .reserved)) len)
     && ltb (r .overflow) (frame r .length + len)
 
--- 5: "commit: len exceeds the reservation"
+-- 5: "`len` exceeds the length of the reservation"
 unfoldable pub pastReservation : BufferPool → ℕ → Bool
 pastReservation r n = ltb (reservation r .length) n
 
--- 6: "take: frame in overflow longer than the destination"
+-- 6: "the frame lies in the overflow and is longer than the destination"
 unfoldable pub destinationTooShort : BufferPool → List ℕ → Bool
 destinationTooShort r destination = inOverflow (frame r .memory) && ltb (length destination) (frame r .length)
 
--- 7: "release or view: slot not 1..8, not live, or start, length or serial not that slot's"
+-- 7: "the handle's slot is not one of 1 to w, or is not live, or the handle's start, length or serial is not that slot's"
 unfoldable pub unknown : ℕ → BufferPool → Handle → Bool
 unknown w r h =
     not (leb 1 (h .slot) && leb (h .slot) w)
@@ -130,11 +66,11 @@ unknown w r h =
     || (not (eqb (h .start) (startAt (r .starts) (h .slot)))
     || (not (eqb (h .length) (startAt (r .lengths) (h .slot))) || not (eqb (h .serial) (startAt (r .serials) (h .slot))))))
 
--- 8: "take of a non-empty pooled frame after 4,294,967,295 serials"
+-- 8: "the frame is not empty, lies in the pool, and 4,294,967,295 serials were given"
 unfoldable pub serialsExhausted : BufferPool → Bool
 serialsExhausted r = not (inOverflow (frame r .memory)) && (ltb 0 (frame r .length) && leb mostSerials (r .given))
 
--- ---- The order: "1, 2, then the call's own"
+-- ---- The order, SPECIFICATION 3.4: "1, then 2, then the call's own cause"
 
 pub record Cause : Type 0 where
   pub number : ℕ
@@ -159,7 +95,7 @@ ownCauses w r m (Look part) = viewCauses w r part
 unfoldable pub causes : ℕ → BufferPool → Memories → Call → List Cause
 causes w r m c = cause 1 (unsound w r) ∷ cause 2 (misfit r m) ∷ ownCauses w r m c
 
--- "New gives only 3"
+-- SPECIFICATION 3.5: "New has no cause but 3."
 unfoldable pub newCauses : Memories → List Cause
 newCauses m = cause 3 (tooLarge m) ∷ []
 

@@ -1,4 +1,5 @@
 pub mod Record
+pub mod Values
 pub mod Moves
 pub mod MoveList
 pub mod Placing
@@ -8,6 +9,7 @@ pub mod Sound
 pub mod SlotPass
 pub mod Steps
 pub mod Calls
+pub mod Vocabulary
 pub mod Rust
 pub mod AsRust
 pub mod Causes

@@ -1,11 +1,11 @@
--- The byte moves of a call, and what each leaves in the two lent memories: every byte of both is determined.
+-- The byte moves of a call (SPECIFICATION 6), and what each leaves in the two lent memories: every byte of both is determined.
 use mathlib.Core.List.{List, [], _∷_}
-use mathlib.Core.Bool.{Bool, true, false, _&&_}
+use mathlib.Core.Bool.{Bool, true, _&&_}
 use Prim.Native.Nat.{ℕ, zero, suc, _+_}
 use lib.Dec.{leb}
 use Rattle.laws.specs.Lists.{copied, moved, zeroed}
 
--- the pool memory and the overflow (document 01's second lent memory, in place of the Rust's heap)
+-- the pool memory and the overflow (SPECIFICATION 1.1)
 pub record Memories : Type 0 where
   pub pool : List ℕ
   pub overflow : List ℕ
@@ -14,15 +14,15 @@ abbrev pub memories : List ℕ → List ℕ → Memories
 memories pool overflow = record { pool = pool; overflow = overflow }
 
 pub data Move : Type 0 where
-  -- in the pool, from, length, to: the Rust's `copy_within`
+  -- 6.2, in the pool, from, length, to: the Rust's `copy_within`
   Within : ℕ → ℕ → ℕ → Move
-  -- so many bytes from the overflow's start to the pool's start: `prepend_raw_data`
+  -- 6.3, so many bytes from the overflow's start to the pool's start: `prepend_raw_data`
   In : ℕ → Move
-  -- in the overflow, from, length, down to 0: what is left of the `Vec` by `split_off`
+  -- 6.4, in the overflow, from, length, down to 0: what is left of the `Vec` by `split_off`
   Down : ℕ → ℕ → Move
-  -- from, length in the pool, to the overflow's start: `copy_into_buffer`
+  -- 6.5, from, length in the pool, to the overflow's start: `copy_into_buffer`
   Out : ℕ → ℕ → Move
-  -- zeros in the overflow, from, up to: the growth of the `Vec`
+  -- 6.6, zeros in the overflow, from, up to: the growth of the `Vec`
   Grow : ℕ → ℕ → Move
 
 -- what one move leaves. A `Down` leaves the bytes past those it moved as they were.

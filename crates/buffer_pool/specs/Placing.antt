@@ -1,5 +1,6 @@
--- Placing a frame, from document 01's section of that name: which record a reserve leaves, how often the mode changes, which
--- bytes are moved, and whether the heap is used. Numbers alone: no definition here sees a byte. w is the slot count.
+-- Placing a frame, SPECIFICATION 5: which record a reserve leaves, how often the mode changes, which bytes are moved, and
+-- whether the overflow is used. Numbers alone: no definition here sees a byte. w is the slot count. What is quoted is the
+-- SPECIFICATION's, under the number that stands with it.
 use mathlib.Core.Bool.{Bool, true, false, not, _&&_, _||_}
 use mathlib.Core.List.{List, [], _∷_, _++_}
 use Prim.Native.Nat.{ℕ, zero, suc, _+_, _-_, min, max}
@@ -13,7 +14,7 @@ use Rattle.buffer_pool.specs.declared.buffer_pool.PoolFront.{PoolFront}
 use Rattle.buffer_pool.specs.declared.buffer_pool.PoolMode.{PoolMode}
 use Rattle.buffer_pool.specs.declared.buffer_pool.PoolMode.the-variants.{Back, Front, Alloc}
 use Rattle.buffer_pool.specs.Record.{after, front, placed, framed, marked}
-use Rattle.buffer_pool.specs.Moves.{Move, Within, In, Down, Out, Grow, within}
+use Rattle.buffer_pool.specs.Moves.{Move, In, Down, Out, Grow, within}
 
 -- what a reserve decides: the next record, the count of mode changes, the moves in their order, and whether the Rust would
 -- use the heap
@@ -25,26 +26,27 @@ pub record Decision : Type 0 where
 
 -- ---- The tail
 
--- d: "the smaller of 8 − s and the trailing zero bits (8 when none is set)"
+-- 5.5: d is "the smaller of w − s and the trailing zeros", which are w if no slot is live
 unfoldable pub drops : ℕ → ℕ → ℕ → ℕ
 drops w live s = min (w - s) (trailingZeros w live)
 
--- "Clearable: d ≤ n and s + n = 8": the Rust's `tail_is_clearable`
+-- 5.5: clearable "if d ≤ n and s + n = w", the Rust's `tail_is_clearable`
 unfoldable pub clearable : ℕ → BufferPool → Bool
 clearable w r = leb (drops w (r .live) (r .«back_start»)) (r .«back_len») && eqb (r .«back_start» + r .«back_len») w
 
--- "The frame goes after slot s + n − d or, with d = n, after the highest live front slot (0 if none)"
+-- 5.6: "if d = n, the end of the highest live slot of slots 1 to s, 0 if none of them is live"; "otherwise the end of slot
+-- s + n − d"
 unfoldable pub tailStart : ℕ → BufferPool → ℕ
 tailStart w r =
     pick (eqb (drops w (r .live) (r .«back_start»)) (r .«back_len»))
     (after (r .starts) (r .lengths) (lastLive w (r .live) (r .«back_start»)))
     (after (r .starts) (r .lengths) (r .«back_start» + r .«back_len» - drops w (r .live) (r .«back_start»)))
 
--- "Tail clear: needs a trailing zero .. if frame and len fit there"
+-- 5.6: "at least one trailing zero and tail start + `raw_len` + `len` ≤ `capacity`"
 unfoldable pub tailFits : ℕ → BufferPool → ℕ → Bool
 tailFits w r len = ltb 0 (trailingZeros w (r .live)) && leb (tailStart w r + r .«raw_len» + len) (r .capacity)
 
--- "n falls by d": the record after a tail clear, in B
+-- 5.6: "n falls by d". The record after a tail clear, in B
 abbrev pub tailCleared : ℕ → BufferPool → BufferPool
 tailCleared w r =
     placed r Back (r .«back_start») (r .«back_len» - drops w (r .live) (r .«back_start»))
@@ -52,19 +54,18 @@ tailCleared w r =
 
 -- ---- The head
 
--- f, and the start of slot f + 1
+-- 5.7: f, and the start of slot f + 1, which is c
 abbrev pub frontSlots : ℕ → BufferPool → ℕ
 frontSlots w r = leadingZeros w (r .live)
 
 abbrev pub frontBytes : ℕ → BufferPool → ℕ
 frontBytes w r = getD (r .starts) (leadingZeros w (r .live)) 0
 
--- "f leading zero bits, f ≥ 1, frame length strictly below the start of slot f + 1", which must be one of the slots
+-- 5.7: "if f ≥ 1, f < w, and `raw_len` is strictly below the start of slot f + 1"
 unfoldable pub headFits : ℕ → BufferPool → Bool
 headFits w r = leb 1 (frontSlots w r) && (ltb (frontSlots w r) w && ltb (r .«raw_len») (frontBytes w r))
 
--- "If f > s, the boundary s becomes f and n falls by the difference. F then has f slots and the bytes below that start, and
--- the frame moves to 0": `max` and the difference that stops at 0 say the "if"
+-- 5.7: "if f > s, then n falls by f − s and s becomes f"; `max` and the difference that stops at 0 say the "if"
 abbrev pub headClearedTo : BufferPool → ℕ → ℕ → BufferPool
 headClearedTo r f bytes = placed r (front f bytes 0) (max (r .«back_start») f) (r .«back_len» - (f - r .«back_start»)) 0 0
 
@@ -73,18 +74,18 @@ headCleared w r = headClearedTo r (frontSlots w r) (frontBytes w r)
 
 -- ---- The overflow
 
--- "Entering A copies the frame to the overflow's start": the Rust's `copy_into_buffer` and `reset_raw`
+-- 5.4, out to the overflow: "`kept` becomes the frame length if it was less". The Rust's `copy_into_buffer` and `reset_raw`
 abbrev pub toAlloc : BufferPool → BufferPool
 toAlloc r = framed r Alloc 0 0 (max (r .kept) (r .cursor + r .«raw_len»)) (r .cursor + r .«raw_len») (r .reserved)
 
--- "growth shows zeros"
+-- 6.6: "Growth shows zeros"
 abbrev pub grows : Bool → ℕ → ℕ → List Move
 grows true start end = Grow start end ∷ []
 grows false start end = []
 
 -- ---- A mode that keeps the frame, and the change to another
 
--- the reservation is made where the frame lies
+-- 5.12: the reservation is made where the frame lies
 abbrev pub finish : PoolMode → BufferPool → List Move → ℕ → Decision
 finish Back r moves len =
     record { next = framed r Back (r .«raw_offset») (r .«raw_len») (r .kept) (r .cursor) len; changes = 0; moves = moves; heap = false }
@@ -123,15 +124,15 @@ stay mode r moves = record { again = false; entered = false; mode = mode; pool =
 abbrev pub change : Bool → BufferPool → List Move → Layer
 change entered r moves = record { again = true; entered = entered; mode = r .mode; pool = r; moves = moves }
 
--- out to the overflow, after these moves
+-- 5.4: out to the overflow, after these moves
 abbrev pub goOut : BufferPool → List Move → Layer
 goOut r moves = change true (toAlloc r) (moves ++ (Out (r .«raw_offset») (r .«raw_len») ∷ []))
 
--- "B: fits if frame end + len ≤ capacity and s + n < 8"
+-- 5.9, 1: "The frame's end + `len` ≤ `capacity`, and s + n < w"
 unfoldable pub backFits : ℕ → BufferPool → ℕ → Bool
 backFits w r len = leb (r .«raw_offset» + r .«raw_len» + len) (r .capacity) && ltb (r .«back_start» + r .«back_len») w
 
--- B: fits? clearable? tail clear? head clear? "Otherwise the tail must be clearable, else A"
+-- 5.9, the step of B: fits? clearable? tail clear? head clear? "The first that holds decides"
 unfoldable pub backOn : Bool → Bool → Bool → Bool → ℕ → BufferPool → Layer
 backOn true c t h w r = stay Back r []
 backOn false false t h w r = goOut r []
@@ -139,11 +140,11 @@ backOn false true true h w r = stay Back (tailCleared w r) (within (r .«raw_off
 backOn false true false true w r = change false (headCleared w r) (within (r .«raw_offset») (r .«raw_len») 0)
 backOn false true false false w r = goOut r []
 
--- the bytes that F needs: the frame's end plus len within its own
+-- 5.10, the bytes that F needs: "the frame's end + `len` ≤ c"
 unfoldable pub frontFits : BufferPool → ℕ → ℕ → Bool
 frontFits r c len = leb (r .«raw_offset» + r .«raw_len» + len) c
 
--- "it drops its own freed tail slots, moves the frame down": the last of F's own slots that is live, and F after that
+-- 5.10, 2: "the front drops its free tail slots". The last of F's own slots that is live, and F after that
 abbrev pub frontLast : ℕ → BufferPool → PoolFront → ℕ
 frontLast w r f = lastLive w (r .live) (f .len)
 
@@ -157,7 +158,7 @@ abbrev pub frontCleared : ℕ → BufferPool → PoolFront → BufferPool
 frontCleared w r f =
     placed r (Front (shorter w r f)) (r .«back_start») (r .«back_len») (frontLast w r f) (frontStart w r f)
 
--- F gives way after these moves: clearable? tail clear? "Failing that, B by a tail clear, else A"
+-- 5.10, 3: F gives way after these moves: clearable? tail clear? "Otherwise out to the overflow"
 unfoldable pub leaveOn : Bool → Bool → ℕ → BufferPool → List Move → Layer
 leaveOn true true w r moves = change false (tailCleared w r) (moves ++ within (r .«raw_offset») (r .«raw_len») (tailStart w r))
 leaveOn true false w r moves = goOut r moves
@@ -166,7 +167,7 @@ leaveOn false t w r moves = goOut r moves
 abbrev pub leave : ℕ → BufferPool → List Move → ℕ → Layer
 leave w r moves len = leaveOn (clearable w r) (tailFits w r len) w r moves
 
--- F: fits? drops a slot? fits after that? "F: needs a slot and bytes. Otherwise it drops .. and tries again"
+-- 5.10, the step of F: fits? drops a slot? fits after that?
 unfoldable pub frontOn : Bool → Bool → Bool → ℕ → BufferPool → PoolFront → ℕ → Layer
 frontOn true d g w r f len = stay (Front f) r []
 frontOn false true true w r f len =
@@ -175,11 +176,11 @@ frontOn false true false w r f len =
     leave w (frontCleared w r f) (within (r .«raw_offset») (r .«raw_len») (frontStart w r f)) len
 frontOn false false g w r f len = leave w r [] len
 
--- "A stays if it was entered in this same reserve, its frame is non-empty, n = 0, or the tail is not clearable"
+-- 5.11, 1: "A stays if it was entered in this reserve, or its frame is not empty, or n = 0, or the tail is not clearable"
 unfoldable pub stays : ℕ → Bool → BufferPool → Bool
 stays w entered r = entered || (ltb 0 (r .cursor) || (eqb (r .«back_len») 0 || not (clearable w r)))
 
--- A: stays? tail clear? head clear? "Otherwise tail clear, then head clear, as above"
+-- 5.11, the step of A: stays? tail clear? head clear?
 unfoldable pub allocOn : Bool → Bool → Bool → ℕ → BufferPool → Layer
 allocOn true t h w r = stay Alloc r []
 allocOn false true h w r = change false (tailCleared w r) []
@@ -203,7 +204,7 @@ layer w entered Back r len = backLayer w r len
 layer w entered (Front f) r len = frontLayer w f r len
 layer w entered Alloc r len = allocLayer w entered r len
 
--- ---- "`reserve_` calls itself after each mode change"
+-- ---- 5.2: "after each change of mode another step, of the new mode"; the Rust's `reserve_` calls itself
 
 -- the decision of a layer, where `next` places again
 abbrev pub resolveOn : (Bool → BufferPool → Decision) → Bool → Layer → ℕ → Decision
@@ -219,7 +220,7 @@ placeOf w zero entered mode r len = finish mode r [] len
 placeOf w (suc k) entered mode r len =
     resolve (λ e q. placeOf w k e (q .mode) q len) (layer w entered mode r len) len
 
--- "no reserve makes more than two changes"
+-- 5.13: "no reserve makes more than two changes"
 abbrev pub mostChanges : ℕ
 mostChanges = 2
 
@@ -230,13 +231,12 @@ isAlloc Back = false
 isAlloc (Front f) = false
 isAlloc Alloc = true
 
--- "if no bit is set and either n is not 0, or the mode is A (overflow) and the overflow frame is empty"
+-- 5.3: "if no slot is live and either n is not 0, or the mode is A and the frame is empty"
 unfoldable pub resets : BufferPool → Bool
 resets r = eqb (r .live) 0 && (not (eqb (r .«back_len») 0) || (isAlloc (r .mode) && eqb (r .cursor) 0))
 
--- the record after a reset: reset at all? A's frame strictly shorter than the capacity? A's frame empty?
--- "B and F move the frame to 0 and go to B. A goes to B only if its frame is strictly shorter than the capacity; the frame
--- then moves to pool start. s and n become 0 with that step." An empty frame of A clears the slots' entries too.
+-- 5.3, the record after a reset, a line for each row of its table: reset at all? A's frame strictly shorter than the
+-- capacity? A's frame empty?
 unfoldable pub resetOn : Bool → Bool → Bool → PoolMode → ℕ → BufferPool → BufferPool
 resetOn false t z mode w r = r
 resetOn true t z Back w r = placed r Back 0 0 0 0
@@ -245,7 +245,7 @@ resetOn true true true Alloc w r = marked (placed r Back 0 0 0 0) (r .live) (rep
 resetOn true true false Alloc w r = framed (placed r Back 0 0 0 0) Back 0 (r .cursor) (r .kept - r .cursor) 0 (r .reserved)
 resetOn true false z Alloc w r = placed r Alloc (r .«back_start») (r .«back_len») 0 (r .«raw_offset»)
 
--- its moves, by the same tests. From A: "moves the bytes after the frame down to 0 and keeps them"
+-- its moves, by the same tests: 6.3 and 6.4 from A
 unfoldable pub resetMoves : Bool → Bool → Bool → PoolMode → BufferPool → List Move
 resetMoves false t z mode r = []
 resetMoves true t z Back r = within (r .«raw_offset») (r .«raw_len») 0
@@ -264,6 +264,6 @@ place w r len =
     first (resetMoves (resets r) (ltb (r .cursor) (r .capacity)) (eqb (r .cursor) 0) (r .mode) r)
     (placeOf w mostChanges false (reset w r .mode) (reset w r) len)
 
--- cause 4: the Rust would use the heap, "and frame length + len exceeds the overflow"
+-- cause 4, by 5.12: "If the overflow is used and frame length + `len` exceeds its length"
 unfoldable pub tooLong : Decision → ℕ → Bool
 tooLong d len = d .heap && ltb (d .next .overflow) (d .next .cursor + len)

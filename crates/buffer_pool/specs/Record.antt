@@ -1,12 +1,11 @@
 -- The pool's record (declared in src/buffer_pool.rt) with some of its fields replaced, and what the other definitions read
--- off it. In a comment, s is `back_start` and n is `back_len`, as in document 01.
+-- off it (SPECIFICATION 2). In a comment, s is `back_start` and n is `back_len`: SPECIFICATION 1.12 has the letters.
 use mathlib.Core.List.{List}
 use Prim.Native.Nat.{ℕ, zero, suc, _+_, _-_}
 use lib.ListN.{getD, replicate}
 use Rattle.buffer_pool.specs.declared.buffer_pool.BufferPool.{BufferPool}
-use Rattle.buffer_pool.specs.declared.buffer_pool.PoolFront.{PoolFront}
 use Rattle.buffer_pool.specs.declared.buffer_pool.PoolMode.{PoolMode}
-use Rattle.buffer_pool.specs.declared.buffer_pool.PoolMode.the-variants.{Back, Front, Alloc}
+use Rattle.buffer_pool.specs.declared.buffer_pool.PoolMode.the-variants.{Back, Front}
 
 -- the slot count and the byte limit: the constants of the pool's type. A w in the other definitions is a slot count.
 abbrev pub slotCount : ℕ
@@ -15,11 +14,11 @@ slotCount = 8
 abbrev pub byteLimit : ℕ
 byteLimit = 1048576
 
--- the start of slot p's slice
+-- the start of slot p's slice (SPECIFICATION 2.3)
 abbrev pub startAt : List ℕ → ℕ → ℕ
 startAt starts p = getD starts (p - 1) 0
 
--- the end of slot p's slice, and 0 for no slot: the Rust's `raw_offset_from_len`
+-- the end of slot p's slice, and 0 for no slot (SPECIFICATION 2.3): the Rust's `raw_offset_from_len`
 unfoldable pub after : List ℕ → List ℕ → ℕ → ℕ
 after starts lengths zero = 0
 after starts lengths (suc i) = getD starts i 0 + getD lengths i 0
@@ -28,7 +27,7 @@ after starts lengths (suc i) = getD starts i 0 + getD lengths i 0
 abbrev pub front : ℕ → ℕ → ℕ → PoolMode
 front f c l = Front (record { «back_start» = f; «byte_capacity» = c; len = l })
 
--- the record of a new pool with memories of these lengths
+-- the record of a new pool with memories of these lengths (SPECIFICATION 2.1)
 abbrev pub newRecord : ℕ → ℕ → ℕ → BufferPool
 newRecord w capacity overflow =
     record {

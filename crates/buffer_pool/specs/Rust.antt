@@ -3,8 +3,8 @@
 -- number. w is `POOL_CAPACITY`; `live` is the Rust's `shared_state`, read once at the start of a reserve. The pairs of `slots`
 -- are two lists. Left out: the `debug` and `fuzz` features, threads.
 use mathlib.Core.Bool.{Bool, true, false, not, _&&_, _||_}
-use mathlib.Core.List.{List, [], _∷_, _++_}
-use Prim.Native.Nat.{ℕ, zero, suc, _+_, _-_, _/_, _^_, min, max}
+use mathlib.Core.List.{List, [], _++_}
+use Prim.Native.Nat.{ℕ, zero, suc, _+_, _-_, _/_, _^_, min}
 use lib.Dec.{leb, ltb, eqb}
 use lib.ListN.{length, take, drop, getD, set, replicate}
 use lib.Count.{leadingZeros, trailingZeros}
@@ -275,7 +275,7 @@ try-clear-tail-unchecked w b m live len =
     || (eqb (w - b .back-start) 0 || ltb (element-to-drop w b live) (w - (b .back-start + b .len))))
     w b m live len (element-to-drop w b live) (w - (b .back-start + b .len))))
 
--- "the boundary only moves forward"
+-- the boundary only moves forward, as the Rust's comment there says
 unfoldable pub boundary : Bool → PoolBack → ℕ → Run PoolBack
 boundary true b front-slots =
     need (leb (front-slots - b .back-start) (b .len)) (done (back front-slots (b .len - (front-slots - b .back-start))))

@@ -1,9 +1,9 @@
 -- The soundness test read as a proposition, with a name for each clause; proofs/Soundness.antt shows that the two say the
--- same (`sound-use`, `sound-make`). Live slices stand in the pool in the order of their slots: `order` is the heart of it.
+-- same (`sound-use`, `sound-make`). Live slices stand in the pool in the order of their slots: the other clauses rest on `order`.
 use mathlib.Core.Path.{_≡_}
-use mathlib.Core.Bool.{Bool, true, false}
+use mathlib.Core.Bool.{true}
 use mathlib.Core.List.{List}
-use Prim.Native.Nat.{ℕ, zero, suc, _+_, _^_, _≤_, _<_, max}
+use Prim.Native.Nat.{ℕ, _+_, _^_, _≤_, _<_, max}
 use lib.ListN.{length}
 use Rattle.laws.specs.Live.{liveAt}
 use Rattle.buffer_pool.specs.declared.buffer_pool.BufferPool.{BufferPool}

@@ -1,7 +1,6 @@
--- The soundness test: one Bool that every call computes first and every promise cites (docs/SOUNDNESS.md says it in words).
+-- The soundness test, SPECIFICATION 4: one Bool that every call computes first (docs/SOUNDNESS.md says who cites it, and why).
 -- A record that fails it is refused with 1. Sound.antt reads it as a proposition.
-use mathlib.Core.Bool.{Bool, true, false, _&&_, _||_}
-use mathlib.Core.List.{List}
+use mathlib.Core.Bool.{Bool, true, _&&_, _||_}
 use Prim.Native.Nat.{ℕ, zero, suc, _+_, _^_}
 use lib.Dec.{leb, ltb, eqb}
 use lib.ListN.{length}
@@ -13,24 +12,24 @@ use Rattle.buffer_pool.specs.declared.buffer_pool.PoolMode.{PoolMode}
 use Rattle.buffer_pool.specs.declared.buffer_pool.PoolMode.the-variants.{Back, Front, Alloc}
 use Rattle.buffer_pool.specs.Record.{byteLimit, startAt, after}
 
--- the live word has w bits and each array a place for every slot (in code the types say so)
+-- 4.5: the live word has w bits and each array a place for every slot (in code the types say so)
 unfoldable pub shaped : ℕ → BufferPool → Bool
 shaped w r =
     ltb (r .live) (2 ^ w)
     && (leb w (length (r .starts)) && (leb w (length (r .lengths)) && leb w (length (r .serials))))
 
--- no memory is longer than the limit
+-- 4.2: no memory is longer than the limit
 unfoldable pub limited : BufferPool → Bool
 limited r = leb (r .capacity) byteLimit && leb (r .overflow) byteLimit
 
--- s < w, s + n ≤ w, n = 0 if the capacity is 0, and the kept length lies in the overflow
+-- 4.3: s < w, s + n ≤ w, n = 0 if the capacity is 0, and the kept length lies in the overflow
 unfoldable pub counted : ℕ → BufferPool → Bool
 counted w r =
     leb (r .kept) (r .overflow)
     && (ltb (r .«back_start») w && (leb (r .«back_start» + r .«back_len») w && (ltb 0 (r .capacity) || eqb (r .«back_len») 0)))
 
--- going up the n slots from p on, each live slot is one of the first most, is not empty, starts at or after end (the end of
--- the live slot before it), and ends within the capacity
+-- 4.4: going up the n slots from p on, each live slot is one of the first most, is not empty, starts at or after end (the end
+-- of the live slot before it), and ends within the capacity
 unfoldable pub rising : ℕ → BufferPool → ℕ → ℕ → ℕ → ℕ → Bool
 rising w r most zero p end = true
 rising w r most (suc n) p end =
@@ -45,7 +44,7 @@ unfoldable pub framedWithin : BufferPool → ℕ → Bool → Bool
 framedWithin r bytes slotLeft =
     leb (r .«raw_offset» + r .«raw_len» + r .reserved) bytes && (slotLeft || eqb (r .«raw_len» + r .reserved) 0)
 
--- B: s + n slots are used, nothing stands in the overflow's frame; and the frame lies after every live slot
+-- 4.6, B: s + n slots are used, nothing stands in the overflow's frame; and the frame lies after every live slot
 unfoldable pub backNumbers : ℕ → BufferPool → Bool
 backNumbers w r =
     eqb (r .used) (r .«back_start» + r .«back_len») && (eqb (r .cursor) 0
@@ -54,7 +53,7 @@ backNumbers w r =
 unfoldable pub backSound : ℕ → BufferPool → Bool
 backSound w r = backNumbers w r && lives w (r .live) (λ p. leb (after (r .starts) (r .lengths) p) (r .«raw_offset»))
 
--- F: the back is full, F's slots are some of those before it, and frame and reservation lie within F's bytes
+-- 4.7, F: the back is full, F's slots are some of those before it, and frame and reservation lie within F's bytes
 unfoldable pub frontNumbers : ℕ → BufferPool → PoolFront → Bool
 frontNumbers w r f =
     eqb (r .«back_start» + r .«back_len») w && (leb 1 (f .«back_start») && (leb (f .«back_start») (r .«back_start»)
@@ -70,7 +69,7 @@ besides r f p =
 unfoldable pub frontSound : ℕ → BufferPool → PoolFront → Bool
 frontSound w r f = frontNumbers w r f && lives w (r .live) (besides r f)
 
--- A: no frame in the pool; frame and reservation lie in the kept bytes of the overflow
+-- 4.8, A: no frame in the pool; frame and reservation lie in the kept bytes of the overflow
 unfoldable pub allocSound : BufferPool → Bool
 allocSound r = eqb (r .«raw_offset») 0 && (eqb (r .«raw_len») 0 && leb (r .cursor + r .reserved) (r .kept))
 

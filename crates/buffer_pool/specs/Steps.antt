@@ -1,10 +1,10 @@
 -- The record steps: what each call does to the record and what it answers, from numbers alone. Calls.antt adds the soundness
 -- test, the memories' lengths and the bytes.
-use mathlib.Core.Bool.{Bool, true, false, not, _&&_}
+use mathlib.Core.Bool.{Bool, true, false, _&&_}
 use mathlib.Core.List.{List, [], _∷_}
 use Prim.Native.Nat.{ℕ, zero, suc, _+_, _-_, min}
 use lib.Dec.{leb, ltb, eqb}
-use lib.ListN.{getD, set}
+use lib.ListN.{set}
 use Rattle.laws.specs.Tests.{pick}
 use Rattle.laws.specs.Live.{liveAt, claimed, released}
 use Rattle.buffer_pool.specs.declared.slice.Handle.{Handle}
@@ -22,16 +22,7 @@ use Rattle.buffer_pool.specs.Record.{startAt, placed, framed, marked}
 use Rattle.buffer_pool.specs.Moves.{Move, Down}
 use Rattle.buffer_pool.specs.Placing.{Decision, place, tooLong}
 
--- ---- Answers
-
--- document 01's number of a refusal, and 0 for every other answer
-unfoldable pub refusal : Answer → ℕ
-refusal Done = 0
-refusal (Reserved p changes) = 0
-refusal (Framed p) = 0
-refusal (Taken h) = 0
-refusal (Copied n) = 0
-refusal (Refused number) = number
+-- ---- Record and answer
 
 abbrev pub called : BufferPool → Answer → Called
 called r answer = record { pool = r; answer = answer }
@@ -45,7 +36,7 @@ refused r number = called r (Refused number)
 abbrev pub at : Memory → ℕ → ℕ → Place
 at memory start length = record { memory = memory; start = start; length = length }
 
--- the frame, as viewed: in the pool, or at the overflow's start
+-- the frame, as viewed (SPECIFICATION 2.4): in the pool, or at the overflow's start
 abbrev pub frameOf : PoolMode → BufferPool → Place
 frameOf Back r = at Pool (r .«raw_offset») (r .«raw_len»)
 frameOf (Front f) r = at Pool (r .«raw_offset») (r .«raw_len»)
@@ -54,8 +45,8 @@ frameOf Alloc r = at Overflow 0 (r .cursor)
 abbrev pub frame : BufferPool → Place
 frame r = frameOf (r .mode) r
 
--- the reservation, as viewed: after the frame, in the same memory. "A spent reservation, and that of a new pool, is empty and
--- at the frame's end."
+-- the reservation, as viewed (SPECIFICATION 2.5): after the frame, in the same memory; by 1.4 "a spent reservation is empty and
+-- lies at the frame's end"
 abbrev pub reservation : BufferPool → Place
 reservation r = at (frame r .memory) (frame r .start + frame r .length) (r .reserved)
 
@@ -73,7 +64,7 @@ reserveOn false r d = reserved (d .next) (d .changes)
 unfoldable pub reserveStep : ℕ → BufferPool → ℕ → Called
 reserveStep w r len = reserveOn (tooLong (place w r len) len) r (place w r len)
 
--- ---- Commit and truncate: "Commit, truncate and take spend the reservation, even a truncate that cuts nothing."
+-- ---- Commit and truncate (SPECIFICATION 7.3 and 7.4): "The reservation is spent, even if nothing is cut."
 
 -- r with a frame of another length, and its reservation spent
 abbrev pub resized : PoolMode → BufferPool → ℕ → BufferPool
@@ -84,7 +75,7 @@ resized Alloc r len = framed r Alloc (r .«raw_offset») (r .«raw_len») (r .ke
 abbrev pub reframed : BufferPool → Called
 reframed r = called r (Framed (frame r))
 
--- cause 5: "len exceeds the reservation"
+-- cause 5: "`len` exceeds the length of the reservation"
 unfoldable pub commitStep : BufferPool → ℕ → Called
 commitStep r n = pick (ltb (r .reserved) n) (refused r 5) (reframed (resized (r .mode) r (frame r .length + n)))
 
@@ -93,7 +84,7 @@ truncateStep r n = reframed (resized (r .mode) r (min (frame r .length) n))
 
 -- ---- Take
 
--- "after 4,294,967,295 serials"
+-- cause 8: "4,294,967,295 serials were given"
 abbrev pub mostSerials : ℕ
 mostSerials = 4294967295
 
@@ -101,7 +92,8 @@ mostSerials = 4294967295
 abbrev pub nextHandle : BufferPool → Handle
 nextHandle r = record { slot = suc (r .used); start = r .«raw_offset»; length = r .«raw_len»; serial = suc (r .given) }
 
--- the frame becomes the slice of slot used + 1, and an empty frame begins after it: `InnerMemory::get_data_owned`
+-- SPECIFICATION 7.6: the frame becomes the slice of slot used + 1, and an empty frame begins after it:
+-- `InnerMemory::get_data_owned`
 abbrev pub handedOut : ℕ → BufferPool → PoolMode → ℕ → BufferPool
 handedOut w r mode n =
     framed
@@ -124,8 +116,8 @@ abbrev pub copiedOutOn : Bool → BufferPool → Called
 copiedOutOn true r = refused r 6
 copiedOutOn false r = called (framed r Alloc (r .«raw_offset») (r .«raw_len») (r .kept - r .cursor) 0 0) (Copied (r .cursor))
 
--- is the frame empty? longer than the destination? are all serials given? "An empty frame gives length 0, no slot, no copy,
--- in every mode."
+-- SPECIFICATION 7.5 to 7.7: is the frame empty? longer than the destination? are all serials given? Of an empty frame: "No slot,
+-- no serial, no copy"
 unfoldable pub takeOn : Bool → Bool → Bool → PoolMode → ℕ → BufferPool → Called
 takeOn true long spent mode w r = called (resized mode r (frameOf mode r .length)) (Copied 0)
 takeOn false long spent Back w r = pooled spent w r Back (suc (r .used) - r .«back_start»)
@@ -137,23 +129,14 @@ unfoldable pub takeStep : ℕ → BufferPool → ℕ → Called
 takeStep w r destination =
     takeOn (eqb (frame r .length) 0) (ltb destination (frame r .length)) (leb mostSerials (r .given)) (r .mode) w r
 
--- so many bytes go to the destination: those of an answer `Copied`
-abbrev pub copiedLength : Answer → ℕ
-copiedLength Done = 0
-copiedLength (Reserved p changes) = 0
-copiedLength (Framed p) = 0
-copiedLength (Taken h) = 0
-copiedLength (Copied n) = n
-copiedLength (Refused number) = 0
-
--- a take out of the overflow "moves the bytes after the frame down to 0 and keeps them"
+-- a take out of the overflow, by 6.4: "the bytes after the frame move down to 0 and are kept"
 unfoldable pub takeMoves : BufferPool → ℕ → List Move
 takeMoves r zero = []
 takeMoves r (suc n) = Down (suc n) (r .kept - suc n) ∷ []
 
 -- ---- Release
 
--- does the handle name a live slot of w, with that slot's start, length and serial? If not, cause 7 holds.
+-- does the handle name a live slot of w, with that slot's start, length and serial? If not, cause 7 holds (SPECIFICATION 3.3).
 unfoldable pub names : ℕ → BufferPool → Handle → Bool
 names w r h =
     leb 1 (h .slot) && (leb (h .slot) w && (liveAt w (r .live) (h .slot)

@@ -13,23 +13,23 @@ use Rattle.buffer_pool.specs.declared.buffer_pool.PoolMode.the-variants.
 use Rattle.buffer_pool.specs.declared.buffer_pool.Memory.{Memory}
 use Rattle.buffer_pool.specs.declared.buffer_pool.Memory.the-variants.{Pool, Overflow}
 use Rattle.buffer_pool.specs.declared.buffer_pool.Place.{Place}
-use Rattle.buffer_pool.specs.declared.buffer_pool.Answer.{Answer}
-use Rattle.buffer_pool.specs.declared.buffer_pool.Answer.the-variants.{Done, Reserved, Framed, Taken, Copied, Refused}
+use Rattle.buffer_pool.specs.Values.{Values, values, refusal}
 use Rattle.buffer_pool.specs.Moves.{Memories}
 use Rattle.buffer_pool.specs.Placing.{mostChanges}
 use Rattle.buffer_pool.specs.Steps.{at}
 use Rattle.buffer_pool.specs.declared.buffer_pool.View.{View}
-use Rattle.buffer_pool.specs.Calls.{Outcome, new, bytesAt, written}
+use Rattle.buffer_pool.specs.Calls.{Outcome, new, bytesAt}
 use Rattle.buffer_pool.specs.Rust.{Run, done, panic, then, with, RustPool, Slice, Pooled, Heap, rust-reserve, rust-commit, rust-truncate, rust-take, rust-release, rust-frame, rust-new}
 use Rattle.buffer_pool.specs.AsRust.{sliceOf, rustWritten}
-use Rattle.buffer_pool.specs.Causes.{Part, TheFrame, TheReservation, TheSlice, Call, Reserve, Commit, Truncate, Take, Release, Look, viewOf, outcomeOf, numberOf}
+use Rattle.buffer_pool.specs.Vocabulary.{Part, TheFrame, TheReservation, TheSlice, Call, Reserve, Commit, Truncate, Take, Release, Look, viewOf, call, numberOf, write}
 
--- ---- Events, and what is seen at one
+-- ---- Actions, and what is seen at one
 
-pub data Event : Type 0 where
-  Make : Call → Event
-  -- "A write sets one byte of a view": of this part, at this index, to this byte; past the view's end it sets none
-  Write : Part → ℕ → ℕ → Event
+pub data Action : Type 0 where
+  Make : Call → Action
+  -- SPECIFICATION 7.10, a write "sets one byte of a view": of this part, at this index, to this byte; past the view's end it sets
+  -- none
+  Write : Part → ℕ → ℕ → Action
 
 -- a range and the bytes in it
 pub record Seen : Type 0 where
@@ -39,7 +39,7 @@ pub record Seen : Type 0 where
 abbrev pub seen : Place → List ℕ → Seen
 seen place bytes = record { place = place; bytes = bytes }
 
--- what an event gives
+-- what an action gives
 pub data Given : Type 0 where
   -- a release and a write
   Nothing : Given
@@ -52,7 +52,7 @@ pub data Given : Type 0 where
   -- a view
   Viewed : Seen → Given
 
--- what an event gives, and what there is to see after it: mode, live slots, frame, reservation, and the slice of each holder, the
+-- what an action gives, and what there is to see after it: mode, live slots, frame, reservation, and the slice of each holder, the
 -- last taken first
 pub record Shown : Type 0 where
   pub given : Given
@@ -81,21 +81,24 @@ abbrev pub seenIn : ℕ → Ours → Part → Seen
 seenIn w s p = seen (view w s p .place) (bytesAt (s .memory) (view w s p .place))
 
 abbrev pub outcomeIn : ℕ → Ours → Call → Outcome
-outcomeIn w s c = outcomeOf w (s .pool) (s .memory) c
+outcomeIn w s c = call w (s .pool) (s .memory) c
+
+-- what its answer says
+abbrev pub saidBy : ℕ → Ours → Call → Values
+saidBy w s c = values (outcomeIn w s c .call .answer)
 
 -- the number of the refusal, or 0
-unfoldable pub number : ℕ → Ours → Event → ℕ
+unfoldable pub number : ℕ → Ours → Action → ℕ
 number w s (Make c) = numberOf w (s .pool) (s .memory) c
-number w s (Write p i byte) = view w s p .number
+number w s (Write p i byte) = refusal (write w (s .pool) (s .memory) p i byte .call .answer)
 
--- the handles held after a take's answer, and after a release with this number
-abbrev pub holding : Answer → List Handle → List Handle
-holding Done held = held
-holding (Reserved place changes) held = held
-holding (Framed place) held = held
-holding (Taken h) held = h ∷ held
-holding (Copied n) held = held
-holding (Refused n) held = held
+-- the handles held after a take that says so, by the slot of its handle (0 is no handle), and after a release with this number
+abbrev pub holdingIn : ℕ → Handle → List Handle → List Handle
+holdingIn zero h held = held
+holdingIn (suc k) h held = h ∷ held
+
+abbrev pub holding : Values → List Handle → List Handle
+holding v held = holdingIn (v .handle .slot) (v .handle) held
 
 unfoldable pub without : ℕ → List Handle → List Handle
 without slot [] = []
@@ -110,33 +113,25 @@ abbrev pub heldAfter : ℕ → Ours → Call → List Handle
 heldAfter w s (Reserve len) = s .held
 heldAfter w s (Commit n) = s .held
 heldAfter w s (Truncate n) = s .held
-heldAfter w s (Take destination) = holding (outcomeIn w s (Take destination) .call .answer) (s .held)
+heldAfter w s (Take destination) = holding (saidBy w s (Take destination)) (s .held)
 heldAfter w s (Release h) = letGo (numberOf w (s .pool) (s .memory) (Release h)) (h .slot) (s .held)
 heldAfter w s (Look p) = s .held
 
--- what an event leaves
-unfoldable pub step : ℕ → Ours → Event → Ours
+-- what an action leaves
+unfoldable pub step : ℕ → Ours → Action → Ours
 step w s (Make c) = ours (outcomeIn w s c .call .pool) (outcomeIn w s c .memory) (heldAfter w s c)
-step w s (Write p i byte) = ours (s .pool) (written (s .memory) (view w s p .place) i byte) (s .held)
+step w s (Write p i byte) = let o = write w (s .pool) (s .memory) p i byte in ours (o .call .pool) (o .memory) (s .held)
 
--- what an answer gives, with the destination left
-unfoldable pub givenBy : Answer → List ℕ → Given
-givenBy Done destination = Nothing
-givenBy (Reserved place changes) destination = Offer place changes
-givenBy (Framed place) destination = Whole place
-givenBy (Taken h) destination = Sliced (sliceOf (Taken h) destination)
-givenBy (Copied n) destination = Sliced (sliceOf (Copied n) destination)
-givenBy (Refused n) destination = Nothing
-
+-- what a call gives, by what its answer says
 abbrev pub givenAt : ℕ → Ours → Call → Given
-givenAt w s (Reserve len) = givenBy (outcomeIn w s (Reserve len) .call .answer) []
-givenAt w s (Commit n) = givenBy (outcomeIn w s (Commit n) .call .answer) []
-givenAt w s (Truncate n) = givenBy (outcomeIn w s (Truncate n) .call .answer) []
-givenAt w s (Take d) = givenBy (outcomeIn w s (Take d) .call .answer) (outcomeIn w s (Take d) .destination)
-givenAt w s (Release h) = givenBy (outcomeIn w s (Release h) .call .answer) []
+givenAt w s (Reserve len) = Offer (saidBy w s (Reserve len) .place) (saidBy w s (Reserve len) .changes)
+givenAt w s (Commit n) = Whole (saidBy w s (Commit n) .place)
+givenAt w s (Truncate n) = Whole (saidBy w s (Truncate n) .place)
+givenAt w s (Take d) = Sliced (sliceOf (saidBy w s (Take d)) (outcomeIn w s (Take d) .destination))
+givenAt w s (Release h) = Nothing
 givenAt w s (Look p) = Viewed (seenIn w s p)
 
-unfoldable pub given : ℕ → Ours → Event → Given
+unfoldable pub given : ℕ → Ours → Action → Given
 given w s (Make c) = givenAt w s c
 given w s (Write p i byte) = Nothing
 
@@ -152,16 +147,16 @@ shownBy w s g =
       slices = map (λ h. seenIn w s (TheSlice h)) (s .held);
     }
 
--- the events that are not refused, and what is shown at each of them
+-- the actions that are not refused, and what is shown at each of them
 abbrev pub unlessRefused : {A : Type 0} → ℕ → A → List A → List A
 unlessRefused zero a rest = a ∷ rest
 unlessRefused (suc n) a rest = rest
 
-unfoldable pub accepted : ℕ → Ours → List Event → List Event
+unfoldable pub accepted : ℕ → Ours → List Action → List Action
 accepted w s [] = []
 accepted w s (e ∷ es) = unlessRefused (number w s e) e (accepted w (step w s e) es)
 
-unfoldable pub shows : ℕ → Ours → List Event → List Shown
+unfoldable pub shows : ℕ → Ours → List Action → List Shown
 shows w s [] = []
 shows w s (e ∷ es) = unlessRefused (number w s e) (shownBy w (step w s e) (given w s e)) (shows w (step w s e) es)
 
@@ -222,7 +217,7 @@ unfoldable pub rustWithout : ℕ → List Holder → List Holder
 rustWithout slot [] = []
 rustWithout slot (h ∷ held) = pick (eqb (h .slot) slot) (rustWithout slot held) (h ∷ rustWithout slot held)
 
--- what an event gives and leaves
+-- what an action gives and leaves
 pub record Did : Type 0 where
   pub given : Given
   pub left : Theirs
@@ -242,7 +237,7 @@ rustCall w t (Release h) =
     (λ place. with (rust-release w (t .pool) (h .slot)) (λ q. did Nothing q (rustWithout (h .slot) (t .held))))
 rustCall w t (Look p) = with (rustPlace t p) (λ place. did (Viewed (rustSeen (t .pool) place)) (t .pool) (t .held))
 
-unfoldable pub rustStep : ℕ → Theirs → Event → Run Did
+unfoldable pub rustStep : ℕ → Theirs → Action → Run Did
 rustStep w t (Make c) = rustCall w t c
 rustStep w t (Write p i byte) = with (rustPlace t p) (λ place. did Nothing (rustWritten (t .pool) place i byte) (t .held))
 
@@ -260,7 +255,7 @@ rustShown a =
       slices = map (λ h. rustSeen p (h .place)) (a .left .held);
     })
 
-unfoldable pub rustShows : ℕ → Theirs → List Event → Run (List Shown)
+unfoldable pub rustShows : ℕ → Theirs → List Action → Run (List Shown)
 rustShows w t [] = done []
 rustShows w t (e ∷ es) =
     then (rustStep w t e) (λ a. then (rustShown a) (λ x. with (rustShows w (a .left) es) (λ rest. x ∷ rest)))

@@ -1,7 +1,8 @@
 // The pool's record, its modes and what its calls answer (buffer_pool/mod.rs of the Rust).
 ghost use mathlib.Core.Path.{_≡_};
 ghost use lib.ListN.{replicate};
-ghost use Rattle.buffer_pool.specs.Record.{newRecord, placed, framed, marked};
+ghost use Rattle.buffer_pool.specs.Record.{slotCount, newRecord, placed, framed, marked};
+ghost use Rattle.buffer_pool.specs.Values.{noPlace, noHandle, values};
 use crate::slice::Handle;
 
 // The front part of the pool. Its slots are those up to `back_start`, its bytes those below `byte_capacity`, and `len` of
@@ -12,7 +13,7 @@ pub struct PoolFront {
     pub len: usize,
 }
 
-// Where the frame is gathered: after the slices of the back (document 01's B), in the front (F), or in the overflow (A).
+// Where the frame is gathered (SPECIFICATION 1.10): after the slices of the back (B), in the front (F), or in the overflow (A).
 pub enum PoolMode {
     Back,
     Front(PoolFront),
@@ -27,9 +28,9 @@ pub struct BufferPool {
     pub overflow: u64,
 
     // for each slot the slice that was last taken there, how many serials were given, and the live slots
-    pub starts: [u32; 8],
-    pub lengths: [u32; 8],
-    pub serials: [u32; 8],
+    pub starts: [u32; BufferPool::POOL_CAPACITY],
+    pub lengths: [u32; BufferPool::POOL_CAPACITY],
+    pub serials: [u32; BufferPool::POOL_CAPACITY],
     pub given: u32,
     pub live: u8,
 
@@ -88,8 +89,104 @@ pub enum Answer {
     // take: this many bytes went to the destination, 0 for an empty frame
     Copied(u64),
 
-    // any call: document 01's number, and nothing was changed
+    // any call: the number of its refusal (SPECIFICATION 3.3), and nothing was changed
     Refused(u8),
+}
+
+// What an answer says. Of what it does not tell, a number is 0, the place empty and the handle that of no slot.
+impl Answer {
+    // The number of the refusal, or 0.
+    pub fn refusal(self) -> u8
+        ensures { λ r. ⌜ r ≡ values self .number ⌝ }
+    {
+        match self {
+            Answer::Done => 0,
+            Answer::Reserved(_, _) => 0,
+            Answer::Framed(_) => 0,
+            Answer::Taken(_) => 0,
+            Answer::Copied(_) => 0,
+            Answer::Refused(number) => number,
+        }
+    }
+
+    // The reservation, or the frame.
+    pub fn place(self) -> Place
+        ensures { λ r. ⌜ r ≡ values self .place ⌝ }
+    {
+        match self {
+            Answer::Done => no_place(),
+            Answer::Reserved(place, _) => place,
+            Answer::Framed(place) => place,
+            Answer::Taken(_) => no_place(),
+            Answer::Copied(_) => no_place(),
+            Answer::Refused(_) => no_place(),
+        }
+    }
+
+    // The handle of a slice.
+    pub fn handle(self) -> Handle
+        ensures { λ r. ⌜ r ≡ values self .handle ⌝ }
+    {
+        match self {
+            Answer::Done => no_handle(),
+            Answer::Reserved(_, _) => no_handle(),
+            Answer::Framed(_) => no_handle(),
+            Answer::Taken(handle) => handle,
+            Answer::Copied(_) => no_handle(),
+            Answer::Refused(_) => no_handle(),
+        }
+    }
+
+    // How many bytes went to the destination.
+    pub fn copied(self) -> u64
+        ensures { λ r. ⌜ r ≡ values self .length ⌝ }
+    {
+        match self {
+            Answer::Done => 0,
+            Answer::Reserved(_, _) => 0,
+            Answer::Framed(_) => 0,
+            Answer::Taken(_) => 0,
+            Answer::Copied(length) => length,
+            Answer::Refused(_) => 0,
+        }
+    }
+
+    // How often the mode changed.
+    pub fn changes(self) -> u32
+        ensures { λ r. ⌜ r ≡ values self .changes ⌝ }
+    {
+        match self {
+            Answer::Done => 0,
+            Answer::Reserved(_, changes) => changes,
+            Answer::Framed(_) => 0,
+            Answer::Taken(_) => 0,
+            Answer::Copied(_) => 0,
+            Answer::Refused(_) => 0,
+        }
+    }
+}
+
+// No place: the empty one at the pool memory's start.
+pub(crate) fn no_place() -> Place
+    ensures { λ r. ⌜ r ≡ noPlace ⌝ }
+{
+    Place {
+        memory: Memory::Pool,
+        start: 0,
+        length: 0,
+    }
+}
+
+// No handle: that of no slot.
+fn no_handle() -> Handle
+    ensures { λ r. ⌜ r ≡ noHandle ⌝ }
+{
+    Handle {
+        slot: 0,
+        start: 0,
+        length: 0,
+        serial: 0,
+    }
 }
 
 // A call's record and answer.
@@ -107,7 +204,7 @@ impl BufferPool {
 
     // The record of a new pool with memories of these lengths.
     pub fn with_lengths(capacity: u64, overflow: u64) -> Self
-        ensures { λ r. ⌜ r ≡ newRecord 8 capacity overflow ⌝ }
+        ensures { λ r. ⌜ r ≡ newRecord slotCount capacity overflow ⌝ }
     {
         BufferPool {
             capacity: capacity,
@@ -200,7 +297,7 @@ impl BufferPool {
 
     // The record with the slots' starts and lengths cleared.
     pub(crate) fn without_entries(self) -> Self
-        ensures { λ r. ⌜ r ≡ marked self (self .live) (replicate 8 0) (replicate 8 0) (self .serials) (self .given) ⌝ }
+        ensures { λ r. ⌜ r ≡ marked self (self .live) (replicate slotCount 0) (replicate slotCount 0) (self .serials) (self .given) ⌝ }
     {
         let mut p = self;
         p.starts = [0; BufferPool::POOL_CAPACITY];

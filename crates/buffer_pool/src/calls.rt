@@ -1,12 +1,14 @@
-// The calls. Each takes the record by value and both lent memories, refuses by document 01's numbers in its order (1, 2, then its
-// own), and gives the record back with the answer; a refused call changes nothing.
+// The calls (SPECIFICATION 7). Each takes the record by value and both lent memories, refuses by the numbers and in the order of
+// SPECIFICATION 3.3 and 3.4 (1, 2, then its own), and gives the record back with the answer; a refused call changes nothing.
 ghost use mathlib.Core.Path.{_≡_};
 ghost use mathlib.Core.List.{[]};
 ghost use Prim.Native.Nat.{_+_, _-_, _≤_};
 ghost use lib.ListN.{length};
 ghost use Rattle.laws.specs.Lists.{copied, moved, zeroed};
+ghost use Rattle.buffer_pool.specs.Record.{slotCount};
 ghost use Rattle.buffer_pool.specs.Moves.{memories};
 ghost use Rattle.buffer_pool.specs.Deciding as deciding;
+ghost use Rattle.buffer_pool.specs.Values.{refusal};
 ghost use Rattle.buffer_pool.specs.Steps as steps;
 ghost use Rattle.buffer_pool.specs.Calls as spec;
 use crate::buffer_pool::Answer;
@@ -22,21 +24,22 @@ use crate::placing::is_growing;
 use crate::placing::is_settled;
 use crate::placing::place;
 use crate::placing::starts_over;
+use crate::refusals;
 use crate::slice::Handle;
 use crate::steps;
 
 // What turns every call away: 1 if the record is unsound, 2 if a memory has another length than the record's, or 0.
 pub(crate) fn guard(p: BufferPool, pool: &[u8], overflow: &[u8]) -> u8
-    ensures { λ r. ⌜ r ≡ spec.cause 8 p (memories (now (pool .entry)) (now (overflow .entry))) ⌝ }
+    ensures { λ r. ⌜ r ≡ spec.cause slotCount p (memories (now (pool .entry)) (now (overflow .entry))) ⌝ }
 {
     if !p.is_sound() {
-        return 1;
+        return refusals::UNSOUND;
     }
     if pool.len() as u64 != p.capacity {
-        return 2;
+        return refusals::WRONG_LENGTH;
     }
     if overflow.len() as u64 != p.overflow {
-        return 2;
+        return refusals::WRONG_LENGTH;
     }
     0
 }
@@ -89,20 +92,6 @@ fn grow(p: BufferPool, overflow: &mut [u8], len: u64) -> BufferPool
     q
 }
 
-// How many bytes of the overflow an answer says to copy.
-fn copied_length(answer: Answer) -> u64
-    ensures { λ r. ⌜ r ≡ steps.copiedLength answer ⌝ }
-{
-    match answer {
-        Answer::Done => 0,
-        Answer::Reserved(_, _) => 0,
-        Answer::Framed(_) => 0,
-        Answer::Taken(_) => 0,
-        Answer::Copied(n) => n,
-        Answer::Refused(_) => 0,
-    }
-}
-
 // The first `n` of the `kept` bytes of the overflow go to the destination's start, and the bytes after them down to 0: the
 // Rust's `split_off`.
 fn copy_out(overflow: &mut [u8], destination: &mut [u8], n: u64, kept: u64)
@@ -119,21 +108,21 @@ fn copy_out(overflow: &mut [u8], destination: &mut [u8], n: u64, kept: u64)
 // What turns a commit away: 1 or 2, 5 if `n` exceeds the reservation, or 0. The calls find their refusal first, so that a call has one
 // place where it refuses and one where it is done.
 fn commit_cause(p: BufferPool, pool: &[u8], overflow: &[u8], n: u64) -> u8
-    ensures { λ r. ⌜ r ≡ spec.numbered 8 p (memories (now (pool .entry)) (now (overflow .entry))) (steps.refusal (steps.commitStep p n .answer)) ⌝ }
+    ensures { λ r. ⌜ r ≡ spec.numbered slotCount p (memories (now (pool .entry)) (now (overflow .entry))) (refusal (steps.commitStep p n .answer)) ⌝ }
 {
     let number = guard(p, pool, overflow);
     if number != 0 {
         return number;
     }
     if p.reserved < n {
-        return 5;
+        return refusals::COMMIT_TOO_LONG;
     }
     0
 }
 
 // What turns a take away: 1 or 2, 6 if the destination is too short for a frame of the overflow, 8 if all serials are given, or 0.
 fn take_cause(p: BufferPool, pool: &[u8], overflow: &[u8], destination: u64) -> u8
-    ensures { λ r. ⌜ r ≡ spec.numbered 8 p (memories (now (pool .entry)) (now (overflow .entry))) (steps.refusal (steps.takeStep 8 p destination .answer)) ⌝ }
+    ensures { λ r. ⌜ r ≡ spec.numbered slotCount p (memories (now (pool .entry)) (now (overflow .entry))) (refusal (steps.takeStep slotCount p destination .answer)) ⌝ }
 {
     let number = guard(p, pool, overflow);
     if number != 0 {
@@ -144,14 +133,14 @@ fn take_cause(p: BufferPool, pool: &[u8], overflow: &[u8], destination: u64) -> 
 
 // What turns a release away: 1 or 2, 7 if the handle names no live slice, or 0.
 fn release_cause(p: BufferPool, pool: &[u8], overflow: &[u8], h: Handle) -> u8
-    ensures { λ r. ⌜ r ≡ spec.numbered 8 p (memories (now (pool .entry)) (now (overflow .entry))) (steps.refusal (steps.releaseStep 8 p h .answer)) ⌝ }
+    ensures { λ r. ⌜ r ≡ spec.numbered slotCount p (memories (now (pool .entry)) (now (overflow .entry))) (refusal (steps.releaseStep slotCount p h .answer)) ⌝ }
 {
     let number = guard(p, pool, overflow);
     if number != 0 {
         return number;
     }
     if !steps::names(p, h) {
-        return 7;
+        return refusals::NOT_LIVE;
     }
     0
 }
@@ -160,16 +149,16 @@ impl BufferPool {
     // A new pool: the pool memory is cleared, the overflow stays as it is. Refuses with 3 if either memory is longer than the
     // byte limit, and then gives the record of a new pool whose two lengths are 0.
     pub fn new(pool: &mut [u8], overflow: &[u8]) -> Called
-        ensures { λ r. ⌜ spec.outcome r (memories (now (pool .exit)) (now (overflow .entry))) [] ≡ spec.new 8 (memories (now (pool .entry)) (now (overflow .entry))) ⌝ }
+        ensures { λ r. ⌜ spec.outcome r (memories (now (pool .exit)) (now (overflow .entry))) [] ≡ spec.new slotCount (memories (now (pool .entry)) (now (overflow .entry))) ⌝ }
     {
         let n = pool.len();
         let capacity = n as u64;
         let length = overflow.len() as u64;
         if BufferPool::BYTE_LIMIT < capacity {
-            return steps::refused(BufferPool::with_lengths(0, 0), 3);
+            return steps::refused(BufferPool::with_lengths(0, 0), refusals::MEMORY_TOO_LONG);
         }
         if BufferPool::BYTE_LIMIT < length {
-            return steps::refused(BufferPool::with_lengths(0, 0), 3);
+            return steps::refused(BufferPool::with_lengths(0, 0), refusals::MEMORY_TOO_LONG);
         }
         fill_zero(pool, 0, n);
         Called {
@@ -182,7 +171,7 @@ impl BufferPool {
     // and with 4 if the overflow would be used and is too short for frame and reservation. Bytes move only once that is known.
     // A reserve that moves no byte is found by a few tests and needs no list of moves.
     pub fn reserve(self, pool: &mut [u8], overflow: &mut [u8], len: u64) -> Called
-        ensures { λ r. ⌜ spec.outcome r (memories (now (pool .exit)) (now (overflow .exit))) [] ≡ spec.reserve 8 self (memories (now (pool .entry)) (now (overflow .entry))) len ⌝ }
+        ensures { λ r. ⌜ spec.outcome r (memories (now (pool .exit)) (now (overflow .exit))) [] ≡ spec.reserve slotCount self (memories (now (pool .entry)) (now (overflow .entry))) len ⌝ }
     {
         let number = guard(self, pool, overflow);
         if number != 0 {
@@ -200,7 +189,7 @@ impl BufferPool {
         }
         let d = place(self, len);
         if d.too_long {
-            return steps::refused(self, 4);
+            return steps::refused(self, refusals::OVERFLOW_TOO_SHORT);
         }
         let moves = d.moves;
         perform(pool, overflow, moves);
@@ -210,7 +199,7 @@ impl BufferPool {
     // The first `n` bytes of the reservation join the frame: gives the frame's place. Refuses with 1, 2, and with 5 if `n` exceeds
     // the reservation.
     pub fn commit(self, pool: &[u8], overflow: &[u8], n: u64) -> Called
-        ensures { λ r. ⌜ spec.outcome r (memories (now (pool .entry)) (now (overflow .entry))) [] ≡ spec.commit 8 self (memories (now (pool .entry)) (now (overflow .entry))) n ⌝ }
+        ensures { λ r. ⌜ spec.outcome r (memories (now (pool .entry)) (now (overflow .entry))) [] ≡ spec.commit slotCount self (memories (now (pool .entry)) (now (overflow .entry))) n ⌝ }
     {
         let number = commit_cause(self, pool, overflow, n);
         if number != 0 {
@@ -221,7 +210,7 @@ impl BufferPool {
 
     // The frame keeps at most its first `n` bytes: gives the frame's place. Refuses with 1 and 2.
     pub fn truncate(self, pool: &[u8], overflow: &[u8], n: u64) -> Called
-        ensures { λ r. ⌜ spec.outcome r (memories (now (pool .entry)) (now (overflow .entry))) [] ≡ spec.truncate 8 self (memories (now (pool .entry)) (now (overflow .entry))) n ⌝ }
+        ensures { λ r. ⌜ spec.outcome r (memories (now (pool .entry)) (now (overflow .entry))) [] ≡ spec.truncate slotCount self (memories (now (pool .entry)) (now (overflow .entry))) n ⌝ }
     {
         let number = guard(self, pool, overflow);
         if number != 0 {
@@ -234,7 +223,7 @@ impl BufferPool {
     // `destination` and gives its length; an empty frame gives length 0. Refuses with 1, 2, with 6 if a frame of the overflow is
     // longer than `destination`, and with 8 if all serials are given.
     pub fn take(self, pool: &[u8], overflow: &mut [u8], destination: &mut [u8]) -> Called
-        ensures { λ r. ⌜ spec.outcome r (memories (now (pool .entry)) (now (overflow .exit))) (now (destination .exit)) ≡ spec.take 8 self (memories (now (pool .entry)) (now (overflow .entry))) (now (destination .entry)) ⌝ }
+        ensures { λ r. ⌜ spec.outcome r (memories (now (pool .entry)) (now (overflow .exit))) (now (destination .exit)) ≡ spec.take slotCount self (memories (now (pool .entry)) (now (overflow .entry))) (now (destination .entry)) ⌝ }
     {
         let number = take_cause(self, pool, overflow, destination.len() as u64);
         if number != 0 {
@@ -242,7 +231,7 @@ impl BufferPool {
         }
         let taken = steps::take_step(self, destination.len() as u64);
         let answer = taken.answer;
-        let n = copied_length(answer);
+        let n = answer.copied();
         if n == 0 {
             return taken;
         }
@@ -252,7 +241,7 @@ impl BufferPool {
 
     // The slot of the handle is free again. Refuses with 1, 2, and with 7 if the handle names no live slice.
     pub fn release(self, pool: &[u8], overflow: &[u8], h: Handle) -> Called
-        ensures { λ r. ⌜ spec.outcome r (memories (now (pool .entry)) (now (overflow .entry))) [] ≡ spec.release 8 self (memories (now (pool .entry)) (now (overflow .entry))) h ⌝ }
+        ensures { λ r. ⌜ spec.outcome r (memories (now (pool .entry)) (now (overflow .entry))) [] ≡ spec.release slotCount self (memories (now (pool .entry)) (now (overflow .entry))) h ⌝ }
     {
         let number = release_cause(self, pool, overflow, h);
         if number != 0 {

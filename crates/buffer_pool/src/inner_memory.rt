@@ -6,7 +6,8 @@ ghost use Prim.Native.Nat as spec;
 ghost use lib.Dec.{leb};
 ghost use lib.ListN.{length};
 ghost use Rattle.laws.specs.Lists.{copied, moved, zeroed};
-ghost use Rattle.buffer_pool.specs.Record.{after};
+ghost use Rattle.buffer_pool.specs.Record.{slotCount, after};
+use crate::buffer_pool::BufferPool;
 
 // Do `used` and `len` bytes from `offset` on lie below `end`? Compared by subtraction, so that no sum can wrap:
 // `in_bounds` and `has_capacity_until_offset`.
@@ -24,11 +25,11 @@ pub(crate) fn in_bounds(end: u64, offset: u64, used: u64, len: u64) -> bool
 
 // The end of the slice of slot `len`, and 0 for no slot.
 pub(crate) fn raw_offset_from_len<'a>(
-    starts: &'a [u32; 8],
-    lengths: &'a [u32; 8],
+    starts: &'a [u32; BufferPool::POOL_CAPACITY],
+    lengths: &'a [u32; BufferPool::POOL_CAPACITY],
     len: usize,
 ) -> u64
-    requires { ⌜ len ≤ 8 ⌝ }
+    requires { ⌜ len ≤ slotCount ⌝ }
     ensures { λ r. ⌜ r ≡ after (now (starts .entry)) (now (lengths .entry)) len ⌝ }
 {
     if len == 0 {

@@ -9,6 +9,7 @@ mod performing;
 mod placing;
 mod pool_back;
 mod pool_front;
+pub mod refusals;
 pub mod slice;
 pub mod sound;
 mod steps;

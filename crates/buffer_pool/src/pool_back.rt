@@ -1,8 +1,8 @@
 // The back of the pool: its tail and head cleared, and a frame placed there (pool_back.rs of the Rust).
 ghost use mathlib.Core.Path.{_≡_};
-ghost use mathlib.Core.Bool.{Bool, true, false};
-ghost use mathlib.Core.List.{[]};
+ghost use mathlib.Core.Bool.{true, false};
 ghost use Prim.Native.Nat.{_+_, _-_, _≤_, _<_};
+ghost use Rattle.buffer_pool.specs.Record.{slotCount};
 ghost use Rattle.buffer_pool.specs.declared.buffer_pool.PoolMode.the-variants.{Back};
 ghost use Rattle.buffer_pool.specs.MoveList.{listed};
 ghost use Rattle.buffer_pool.specs.Placing.{drops, clearable, tailStart, tailFits, tailCleared, headFits, headClearedTo, headCleared, backFits, backLayer};
@@ -23,12 +23,12 @@ use crate::slice::last_front;
 use crate::slice::leading;
 use crate::slice::trailing;
 
-// d of document 01: the freed slots at the end of the back.
+// d of SPECIFICATION 5.5: the freed slots at the end of the back.
 pub(crate) fn element_to_drop(live: u8, back_start: usize) -> usize
-    requires { ⌜ «back_start» ≤ 8 ⌝ }
-    ensures { λ r. ⌜ r ≡ drops 8 live «back_start» ⌝ }
+    requires { ⌜ «back_start» ≤ slotCount ⌝ }
+    ensures { λ r. ⌜ r ≡ drops slotCount live «back_start» ⌝ }
 {
-    let element_in_back = 8 - back_start;
+    let element_in_back = BufferPool::POOL_CAPACITY - back_start;
     let trailing_0 = trailing(live);
     if element_in_back < trailing_0 {
         return element_in_back;
@@ -38,21 +38,21 @@ pub(crate) fn element_to_drop(live: u8, back_start: usize) -> usize
 
 // Can the tail be cleared?
 pub(crate) fn tail_is_clearable(p: BufferPool) -> bool
-    requires { ⌜ p .«back_start» + p .«back_len» ≤ 8 ⌝ }
-    ensures { λ r. ⌜ r ≡ clearable 8 p ⌝ }
+    requires { ⌜ p .«back_start» + p .«back_len» ≤ slotCount ⌝ }
+    ensures { λ r. ⌜ r ≡ clearable slotCount p ⌝ }
 {
     let back_start = p.back_start;
     let back_len = p.back_len;
     if back_len < element_to_drop(p.live, back_start) {
         return false;
     }
-    back_start + back_len == 8
+    back_start + back_len == BufferPool::POOL_CAPACITY
 }
 
 // Where the frame goes by a tail clear that drops d slots.
 fn tail_start(p: BufferPool, d: usize) -> u64
-    requires { ⌜ (p .«back_start» + p .«back_len» ≤ 8) × (d ≡ drops 8 (p .live) (p .«back_start»)) × (d ≤ p .«back_len») ⌝ }
-    ensures { λ r. ⌜ r ≡ tailStart 8 p ⌝ }
+    requires { ⌜ (p .«back_start» + p .«back_len» ≤ slotCount) × (d ≡ drops slotCount (p .live) (p .«back_start»)) × (d ≤ p .«back_len») ⌝ }
+    ensures { λ r. ⌜ r ≡ tailStart slotCount p ⌝ }
 {
     let starts = p.starts;
     let lengths = p.lengths;
@@ -67,8 +67,8 @@ fn tail_start(p: BufferPool, d: usize) -> u64
 
 // The tail cleared, if frame and `len` fit after it.
 pub(crate) fn try_clear_tail_unchecked(p: BufferPool, len: u64) -> Cleared
-    requires { ⌜ (p .«back_start» + p .«back_len» ≤ 8) × (clearable 8 p ≡ true) ⌝ }
-    ensures { λ r. ⌜ r ≡ clearedOn (tailFits 8 p len) (tailCleared 8 p) p ⌝ }
+    requires { ⌜ (p .«back_start» + p .«back_len» ≤ slotCount) × (clearable slotCount p ≡ true) ⌝ }
+    ensures { λ r. ⌜ r ≡ clearedOn (tailFits slotCount p len) (tailCleared slotCount p) p ⌝ }
 {
     let back_start = p.back_start;
     let back_len = p.back_len;
@@ -95,7 +95,7 @@ pub(crate) fn try_clear_tail_unchecked(p: BufferPool, len: u64) -> Cleared
 
 // The front of f slots and the bytes below `byte_capacity`; the boundary only moves forward.
 fn head_cleared(p: BufferPool, f: usize, byte_capacity: u64) -> BufferPool
-    requires { ⌜ (p .«back_start» + p .«back_len» ≡ 8) × (f ≤ 8) ⌝ }
+    requires { ⌜ (p .«back_start» + p .«back_len» ≡ slotCount) × (f ≤ slotCount) ⌝ }
     ensures { λ r. ⌜ r ≡ headClearedTo p f «byte_capacity» ⌝ }
 {
     let back_start = p.back_start;
@@ -113,8 +113,8 @@ fn head_cleared(p: BufferPool, f: usize, byte_capacity: u64) -> BufferPool
 
 // The head cleared, if the frame is shorter than the bytes before the first live slot.
 pub(crate) fn try_clear_head(p: BufferPool) -> Cleared
-    requires { ⌜ p .«back_start» + p .«back_len» ≡ 8 ⌝ }
-    ensures { λ r. ⌜ r ≡ clearedOn (headFits 8 p) (headCleared 8 p) p ⌝ }
+    requires { ⌜ p .«back_start» + p .«back_len» ≡ slotCount ⌝ }
+    ensures { λ r. ⌜ r ≡ clearedOn (headFits slotCount p) (headCleared slotCount p) p ⌝ }
 {
     let front_slots = leading(p.live);
     if front_slots < 1 {
@@ -123,7 +123,7 @@ pub(crate) fn try_clear_head(p: BufferPool) -> Cleared
             pool: p,
         };
     }
-    if 8 <= front_slots {
+    if BufferPool::POOL_CAPACITY <= front_slots {
         return Cleared {
             cleared: false,
             pool: p,
@@ -145,19 +145,19 @@ pub(crate) fn try_clear_head(p: BufferPool) -> Cleared
 
 // Do a slot and `len` bytes after the frame lie within the back?
 pub(crate) fn back_fits(p: BufferPool, len: u64) -> bool
-    requires { ⌜ p .«back_start» + p .«back_len» ≤ 8 ⌝ }
-    ensures { λ r. ⌜ r ≡ backFits 8 p len ⌝ }
+    requires { ⌜ p .«back_start» + p .«back_len» ≤ slotCount ⌝ }
+    ensures { λ r. ⌜ r ≡ backFits slotCount p len ⌝ }
 {
     if !in_bounds(p.capacity, p.raw_offset, p.raw_len, len) {
         return false;
     }
-    p.back_start + p.back_len < 8
+    p.back_start + p.back_len < BufferPool::POOL_CAPACITY
 }
 
 // A frame that is in the back: it stays, or the tail or the head is cleared for it, or it goes to the overflow.
 pub(crate) fn reserve(p: BufferPool, moves: Moves, len: u64) -> ModeStep
-    requires { ⌜ (p .mode ≡ Back) × (p .«back_start» + p .«back_len» ≤ 8) × (p .cursor ≡ 0) × (moves .count < 7) ⌝ }
-    ensures { λ r. ⌜ layerOf r ≡ ahead (listed moves) (backLayer 8 p len) ⌝ }
+    requires { ⌜ (p .mode ≡ Back) × (p .«back_start» + p .«back_len» ≤ slotCount) × (p .cursor ≡ 0) × (moves .count < 7) ⌝ }
+    ensures { λ r. ⌜ layerOf r ≡ ahead (listed moves) (backLayer slotCount p len) ⌝ }
     ensures { λ r. ⌜ r .moves .count ≤ moves .count + 1 ⌝ }
 {
     let start = p.raw_offset;

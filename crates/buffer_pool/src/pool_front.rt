@@ -4,6 +4,7 @@ ghost use mathlib.Core.Bool.{_&&_};
 ghost use Prim.Native.Nat.{_+_, _≤_, _<_};
 ghost use lib.Dec.{ltb};
 ghost use Rattle.laws.specs.Live.{lastLive};
+ghost use Rattle.buffer_pool.specs.Record.{slotCount};
 ghost use Rattle.buffer_pool.specs.declared.buffer_pool.PoolMode.the-variants.{Front};
 ghost use Rattle.buffer_pool.specs.MoveList.{listed};
 ghost use Rattle.buffer_pool.specs.Placing as spec;
@@ -34,8 +35,8 @@ pub(crate) fn front_fits(p: BufferPool, f: PoolFront, len: u64) -> bool
 
 // The front with its slots after `last`, its last live one, dropped: `try_clear_tail`.
 fn front_cleared(p: BufferPool, f: PoolFront, last: usize) -> BufferPool
-    requires { ⌜ (last ≡ lastLive 8 (p .live) (f .len)) × (last ≤ 8) ⌝ }
-    ensures { λ r. ⌜ r ≡ spec.frontCleared 8 p f ⌝ }
+    requires { ⌜ (last ≡ lastLive slotCount (p .live) (f .len)) × (last ≤ slotCount) ⌝ }
+    ensures { λ r. ⌜ r ≡ spec.frontCleared slotCount p f ⌝ }
 {
     let starts = p.starts;
     let lengths = p.lengths;
@@ -56,8 +57,8 @@ fn front_cleared(p: BufferPool, f: PoolFront, last: usize) -> BufferPool
 
 // The front gives way: to the back by a tail clear, else to the overflow.
 fn leave(p: BufferPool, moves: Moves, len: u64) -> ModeStep
-    requires { ⌜ (p .«back_start» + p .«back_len» ≤ 8) × (p .cursor ≡ 0) × (moves .count < 7) ⌝ }
-    ensures { λ r. ⌜ layerOf r ≡ spec.leave 8 p (listed moves) len ⌝ }
+    requires { ⌜ (p .«back_start» + p .«back_len» ≤ slotCount) × (p .cursor ≡ 0) × (moves .count < 7) ⌝ }
+    ensures { λ r. ⌜ layerOf r ≡ spec.leave slotCount p (listed moves) len ⌝ }
     ensures { λ r. ⌜ r .moves .count ≤ moves .count + 1 ⌝ }
 {
     let start = p.raw_offset;
@@ -75,8 +76,8 @@ fn leave(p: BufferPool, moves: Moves, len: u64) -> ModeStep
 
 // A frame that is in the front: it stays, or it stays after the front's freed slots are dropped, or the front gives way.
 pub(crate) fn reserve(p: BufferPool, f: PoolFront, moves: Moves, len: u64) -> ModeStep
-    requires { ⌜ (p .mode ≡ Front f) × (p .«back_start» + p .«back_len» ≤ 8) × (p .cursor ≡ 0) × (f .len ≤ 8) × (moves .count < 6) ⌝ }
-    ensures { λ r. ⌜ layerOf r ≡ ahead (listed moves) (spec.frontLayer 8 f p len) ⌝ }
+    requires { ⌜ (p .mode ≡ Front f) × (p .«back_start» + p .«back_len» ≤ slotCount) × (p .cursor ≡ 0) × (f .len ≤ slotCount) × (moves .count < 6) ⌝ }
+    ensures { λ r. ⌜ layerOf r ≡ ahead (listed moves) (spec.frontLayer slotCount f p len) ⌝ }
     ensures { λ r. ⌜ r .moves .count ≤ moves .count + 2 ⌝ }
 {
     if front_fits(p, f, len) {

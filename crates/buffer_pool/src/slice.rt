@@ -3,6 +3,8 @@ ghost use mathlib.Core.Path.{_≡_};
 ghost use Prim.Native.Nat.{_≤_};
 ghost use lib.Count.{leadingZeros, trailingZeros};
 ghost use Rattle.laws.specs.Live.{slotMask, claimed, released, liveAt, lastLive};
+ghost use Rattle.buffer_pool.specs.Record.{slotCount};
+use crate::buffer_pool::BufferPool;
 
 // What a take gives for a slice: its slot, its place in the pool memory and its serial.
 pub struct Handle {
@@ -14,59 +16,59 @@ pub struct Handle {
 
 // The bit that tracks slot `position`: `SharedState::mask`.
 pub(crate) fn mask(position: u8) -> u8
-    requires { ⌜ (1 ≤ position) × (position ≤ 8) ⌝ }
-    ensures { λ r. ⌜ r ≡ slotMask 8 position ⌝ }
+    requires { ⌜ (1 ≤ position) × (position ≤ slotCount) ⌝ }
+    ensures { λ r. ⌜ r ≡ slotMask slotCount position ⌝ }
 {
     0x80u8 >> (position - 1)
 }
 
 // The live slots with slot `position` taken: `SharedState::claim`.
 pub(crate) fn claim(live: u8, position: u8) -> u8
-    requires { ⌜ (1 ≤ position) × (position ≤ 8) ⌝ }
-    ensures { λ r. ⌜ r ≡ claimed 8 live position ⌝ }
+    requires { ⌜ (1 ≤ position) × (position ≤ slotCount) ⌝ }
+    ensures { λ r. ⌜ r ≡ claimed slotCount live position ⌝ }
 {
     live | mask(position)
 }
 
 // The live slots with slot `position` free: `SharedState::release`.
 pub(crate) fn release(live: u8, position: u8) -> u8
-    requires { ⌜ (1 ≤ position) × (position ≤ 8) ⌝ }
-    ensures { λ r. ⌜ r ≡ released 8 live position ⌝ }
+    requires { ⌜ (1 ≤ position) × (position ≤ slotCount) ⌝ }
+    ensures { λ r. ⌜ r ≡ released slotCount live position ⌝ }
 {
     live & !mask(position)
 }
 
 // Is slot `position` live?
 pub(crate) fn is_live(live: u8, position: u8) -> bool
-    requires { ⌜ (1 ≤ position) × (position ≤ 8) ⌝ }
-    ensures { λ r. ⌜ r ≡ liveAt 8 live position ⌝ }
+    requires { ⌜ (1 ≤ position) × (position ≤ slotCount) ⌝ }
+    ensures { λ r. ⌜ r ≡ liveAt slotCount live position ⌝ }
 {
     live & mask(position) != 0
 }
 
 // The free slots before the first live one.
 pub(crate) fn leading(live: u8) -> usize
-    ensures { λ r. ⌜ (r ≡ leadingZeros 8 live) × (r ≤ 8) ⌝ }
+    ensures { λ r. ⌜ (r ≡ leadingZeros slotCount live) × (r ≤ slotCount) ⌝ }
 {
     u8::leading_zeros(live) as usize
 }
 
 // The free slots after the last live one.
 pub(crate) fn trailing(live: u8) -> usize
-    ensures { λ r. ⌜ (r ≡ trailingZeros 8 live) × (r ≤ 8) ⌝ }
+    ensures { λ r. ⌜ (r ≡ trailingZeros slotCount live) × (r ≤ slotCount) ⌝ }
 {
     u8::trailing_zeros(live) as usize
 }
 
 // The last live slot of those up to `back`, and 0 where none of them is live: their bits, shifted down, tell it.
 pub(crate) fn last_front(live: u8, back: usize) -> usize
-    requires { ⌜ back ≤ 8 ⌝ }
-    ensures { λ r. ⌜ (r ≡ lastLive 8 live back) × (r ≤ back) ⌝ }
+    requires { ⌜ back ≤ slotCount ⌝ }
+    ensures { λ r. ⌜ (r ≡ lastLive slotCount live back) × (r ≤ back) ⌝ }
 {
     if back == 0 {
         return 0;
     }
-    let front = live >> (8 - back);
+    let front = live >> (BufferPool::POOL_CAPACITY - back);
     if front == 0 {
         return 0;
     }

@@ -2,6 +2,7 @@
 ghost use mathlib.Core.Path.{_≡_};
 ghost use mathlib.Core.Bool.{true};
 ghost use Prim.Native.Nat.{_+_, _≤_, _<_};
+ghost use Rattle.buffer_pool.specs.Record.{slotCount};
 ghost use Rattle.buffer_pool.specs.Soundness as spec;
 ghost use Rattle.buffer_pool.specs.SlotPass.{boundsOf, slotSound, slotPass, passes, numbersSound};
 use crate::buffer_pool::BufferPool;
@@ -62,14 +63,14 @@ fn slot_sound(b: Bounds, p: usize, start: u64, stop: u64, end: u64) -> bool
 
 // One slot, of index `i`.
 fn slot_pass<'a>(
-    starts: &'a [u32; 8],
-    lengths: &'a [u32; 8],
+    starts: &'a [u32; BufferPool::POOL_CAPACITY],
+    lengths: &'a [u32; BufferPool::POOL_CAPACITY],
     live: u8,
     b: Bounds,
     i: usize,
     end: u64,
 ) -> Passed
-    requires { ⌜ i < 8 ⌝ }
+    requires { ⌜ i < slotCount ⌝ }
     ensures { λ r. ⌜ r ≡ slotPass (now (starts .entry)) (now (lengths .entry)) live b i end ⌝ }
 {
     let p = i + 1;
@@ -89,14 +90,14 @@ fn slot_pass<'a>(
 
 // The slots up to the last live one; those above it are free.
 pub(crate) fn slots_sound<'a>(
-    starts: &'a [u32; 8],
-    lengths: &'a [u32; 8],
+    starts: &'a [u32; BufferPool::POOL_CAPACITY],
+    lengths: &'a [u32; BufferPool::POOL_CAPACITY],
     live: u8,
     b: Bounds,
 ) -> bool
-    ensures { λ r. ⌜ r ≡ passes (now (starts .entry)) (now (lengths .entry)) live b 8 0 0 ⌝ }
+    ensures { λ r. ⌜ r ≡ passes (now (starts .entry)) (now (lengths .entry)) live b slotCount 0 0 ⌝ }
 {
-    let last = 8 - trailing(live);
+    let last = BufferPool::POOL_CAPACITY - trailing(live);
     let mut i = 0;
     let mut end = 0;
     while i < last {
@@ -112,7 +113,7 @@ pub(crate) fn slots_sound<'a>(
 
 // Is no memory longer than the limit? That the arrays have a place for every slot, the types say.
 fn limited(p: BufferPool) -> bool
-    ensures { λ r. ⌜ (r ≡ spec.limited p) × (spec.shaped 8 p ≡ true) ⌝ }
+    ensures { λ r. ⌜ (r ≡ spec.limited p) × (spec.shaped slotCount p ≡ true) ⌝ }
 {
     if BufferPool::BYTE_LIMIT < p.capacity {
         return false;
@@ -122,17 +123,17 @@ fn limited(p: BufferPool) -> bool
 
 // Do the numbers of the back, and the kept length, lie in their bounds?
 fn counted(p: BufferPool) -> bool
-    ensures { λ r. ⌜ r ≡ spec.counted 8 p ⌝ }
+    ensures { λ r. ⌜ r ≡ spec.counted slotCount p ⌝ }
 {
     let back_start = p.back_start;
     let back_len = p.back_len;
     if p.overflow < p.kept {
         return false;
     }
-    if 8 <= back_start {
+    if BufferPool::POOL_CAPACITY <= back_start {
         return false;
     }
-    if 8 - back_start < back_len {
+    if BufferPool::POOL_CAPACITY - back_start < back_len {
         return false;
     }
     if 0 < p.capacity {
@@ -159,8 +160,8 @@ fn framed_within(p: BufferPool, bytes: u64, slot_left: bool) -> bool
 
 // The numbers of a pool in the back.
 fn back_numbers(p: BufferPool) -> bool
-    requires { ⌜ p .«back_start» + p .«back_len» ≤ 8 ⌝ }
-    ensures { λ r. ⌜ r ≡ spec.backNumbers 8 p ⌝ }
+    requires { ⌜ p .«back_start» + p .«back_len» ≤ slotCount ⌝ }
+    ensures { λ r. ⌜ r ≡ spec.backNumbers slotCount p ⌝ }
 {
     let last = p.back_start + p.back_len;
     if p.used != last {
@@ -169,18 +170,18 @@ fn back_numbers(p: BufferPool) -> bool
     if p.cursor != 0 {
         return false;
     }
-    framed_within(p, p.capacity, last < 8)
+    framed_within(p, p.capacity, last < BufferPool::POOL_CAPACITY)
 }
 
 // The numbers of a pool in the front.
 fn front_numbers(p: BufferPool, f: PoolFront) -> bool
-    requires { ⌜ p .«back_start» + p .«back_len» ≤ 8 ⌝ }
-    ensures { λ r. ⌜ r ≡ spec.frontNumbers 8 p f ⌝ }
+    requires { ⌜ p .«back_start» + p .«back_len» ≤ slotCount ⌝ }
+    ensures { λ r. ⌜ r ≡ spec.frontNumbers slotCount p f ⌝ }
 {
     let slots = f.back_start;
     let len = f.len;
     let bytes = f.byte_capacity;
-    if p.back_start + p.back_len != 8 {
+    if p.back_start + p.back_len != BufferPool::POOL_CAPACITY {
         return false;
     }
     if slots < 1 {
@@ -225,7 +226,7 @@ struct Numbers {
 
 // The test of the numbers, by the mode, with the bounds that the slots are measured against.
 fn mode_numbers(p: BufferPool) -> Numbers
-    requires { ⌜ p .«back_start» + p .«back_len» ≤ 8 ⌝ }
+    requires { ⌜ p .«back_start» + p .«back_len» ≤ slotCount ⌝ }
     ensures { λ r. ⌜ (r .sound ≡ numbersSound (p .mode) p) × (r .bounds ≡ boundsOf (p .mode) p) ⌝ }
 {
     let most = p.back_start + p.back_len;
@@ -236,9 +237,9 @@ fn mode_numbers(p: BufferPool) -> Numbers
             bounds: Bounds {
                 most: most,
                 capacity: p.capacity,
-                own: 8,
+                own: BufferPool::POOL_CAPACITY,
                 offset: p.raw_offset,
-                above: 8,
+                above: BufferPool::POOL_CAPACITY,
                 bytes: 0,
             },
         },
@@ -270,7 +271,7 @@ fn mode_numbers(p: BufferPool) -> Numbers
 impl BufferPool {
     // Does the record pass the soundness test?
     pub fn is_sound(self) -> bool
-        ensures { λ r. ⌜ r ≡ spec.sound 8 self ⌝ }
+        ensures { λ r. ⌜ r ≡ spec.sound slotCount self ⌝ }
     {
         if !limited(self) {
             return false;

@@ -2,8 +2,10 @@
 ghost use mathlib.Core.Path.{_≡_};
 ghost use Prim.Native.Nat.{_+_, _≤_, _<_};
 ghost use lib.Dec.{leb, ltb};
+ghost use Rattle.buffer_pool.specs.Record.{slotCount};
 ghost use Rattle.buffer_pool.specs.Sound.{Orderly};
 ghost use Rattle.buffer_pool.specs.Placing.{isAlloc};
+ghost use Rattle.buffer_pool.specs.Values.{refusal};
 ghost use Rattle.buffer_pool.specs.Steps as spec;
 use crate::buffer_pool::Answer;
 use crate::buffer_pool::BufferPool;
@@ -12,6 +14,7 @@ use crate::buffer_pool::Memory;
 use crate::buffer_pool::Place;
 use crate::buffer_pool::PoolFront;
 use crate::buffer_pool::PoolMode;
+use crate::refusals;
 use crate::slice::Handle;
 use crate::slice::claim;
 use crate::slice::is_live;
@@ -78,11 +81,11 @@ fn reframed(p: BufferPool) -> Called
 
 // Commit: the first `n` bytes of the reservation join the frame.
 pub(crate) fn commit_step(p: BufferPool, n: u64) -> Called
-    requires { ⌜ Orderly 8 p ⌝ }
+    requires { ⌜ Orderly slotCount p ⌝ }
     ensures { λ r. ⌜ r ≡ spec.commitStep p n ⌝ }
 {
     if p.reserved < n {
-        return refused(p, 5);
+        return refused(p, refusals::COMMIT_TOO_LONG);
     }
     let whole = frame(p);
     reframed(resized(p, whole.length + n))
@@ -101,8 +104,8 @@ pub(crate) fn truncate_step(p: BufferPool, n: u64) -> Called
 
 // The frame as the slice of the next slot, with the next serial; an empty frame begins after it: `InnerMemory::get_data_owned`.
 fn hand_out(p: BufferPool, mode: PoolMode, back_len: usize) -> BufferPool
-    requires { ⌜ (p .used < 8) × (p .«raw_offset» + p .«raw_len» ≤ 4294967295) × (p .given < 4294967295) ⌝ }
-    ensures { λ r. ⌜ r ≡ spec.handedOut 8 p mode «back_len» ⌝ }
+    requires { ⌜ (p .used < slotCount) × (p .«raw_offset» + p .«raw_len» ≤ 4294967295) × (p .given < 4294967295) ⌝ }
+    ensures { λ r. ⌜ r ≡ spec.handedOut slotCount p mode «back_len» ⌝ }
 {
     let k = p.used;
     let serial = p.given + 1;
@@ -135,11 +138,11 @@ fn hand_out(p: BufferPool, mode: PoolMode, back_len: usize) -> BufferPool
 
 // A take of a non-empty frame of the pool.
 fn take_pooled(p: BufferPool, mode: PoolMode, back_len: usize) -> Called
-    requires { ⌜ (p .used < 8) × (p .«raw_offset» + p .«raw_len» ≤ 4294967295) ⌝ }
-    ensures { λ r. ⌜ r ≡ spec.pooled (leb 4294967295 (p .given)) 8 p mode «back_len» ⌝ }
+    requires { ⌜ (p .used < slotCount) × (p .«raw_offset» + p .«raw_len» ≤ 4294967295) ⌝ }
+    ensures { λ r. ⌜ r ≡ spec.pooled (leb 4294967295 (p .given)) slotCount p mode «back_len» ⌝ }
 {
     if 4294967295 <= p.given {
-        return refused(p, 8);
+        return refused(p, refusals::NO_SERIALS);
     }
     let handle = Handle {
         slot: (p.used + 1) as u8,
@@ -160,7 +163,7 @@ fn take_copied(p: BufferPool, destination: u64) -> Called
 {
     let cursor = p.cursor;
     if destination < cursor {
-        return refused(p, 6);
+        return refused(p, refusals::DESTINATION_TOO_SHORT);
     }
     Called {
         pool: p.framed(
@@ -177,7 +180,7 @@ fn take_copied(p: BufferPool, destination: u64) -> Called
 
 // The number that a take to a destination of this length is refused with, or 0.
 pub(crate) fn take_refusal(p: BufferPool, destination: u64) -> u8
-    ensures { λ r. ⌜ r ≡ spec.refusal (spec.takeStep 8 p destination .answer) ⌝ }
+    ensures { λ r. ⌜ r ≡ refusal (spec.takeStep slotCount p destination .answer) ⌝ }
 {
     let whole = frame(p);
     if whole.length == 0 {
@@ -185,12 +188,12 @@ pub(crate) fn take_refusal(p: BufferPool, destination: u64) -> u8
     }
     if in_overflow(p) {
         if destination < whole.length {
-            return 6;
+            return refusals::DESTINATION_TOO_SHORT;
         }
         return 0;
     }
     if 4294967295 <= p.given {
-        return 8;
+        return refusals::NO_SERIALS;
     }
     0
 }
@@ -209,8 +212,8 @@ fn in_overflow(p: BufferPool) -> bool
 
 // Take: the frame becomes a slice of the pool, or is copied to a destination of this length.
 pub(crate) fn take_step(p: BufferPool, destination: u64) -> Called
-    requires { ⌜ (Orderly 8 p) × (p .capacity ≤ 4294967295) ⌝ }
-    ensures { λ r. ⌜ r ≡ spec.takeStep 8 p destination ⌝ }
+    requires { ⌜ (Orderly slotCount p) × (p .capacity ≤ 4294967295) ⌝ }
+    ensures { λ r. ⌜ r ≡ spec.takeStep slotCount p destination ⌝ }
 {
     let whole = frame(p);
     if whole.length == 0 {
@@ -237,13 +240,13 @@ pub(crate) fn take_step(p: BufferPool, destination: u64) -> Called
 
 // Does the handle name a live slot, with that slot's start, length and serial?
 pub(crate) fn names(p: BufferPool, h: Handle) -> bool
-    ensures { λ r. ⌜ r ≡ spec.names 8 p h ⌝ }
+    ensures { λ r. ⌜ r ≡ spec.names slotCount p h ⌝ }
 {
     let slot = h.slot;
     if slot < 1 {
         return false;
     }
-    if 8 < slot {
+    if BufferPool::POOL_CAPACITY < slot as usize {
         return false;
     }
     if !is_live(p.live, slot) {
@@ -264,10 +267,10 @@ pub(crate) fn names(p: BufferPool, h: Handle) -> bool
 
 // Release: the slot of the handle is free.
 pub(crate) fn release_step(p: BufferPool, h: Handle) -> Called
-    ensures { λ r. ⌜ r ≡ spec.releaseStep 8 p h ⌝ }
+    ensures { λ r. ⌜ r ≡ spec.releaseStep slotCount p h ⌝ }
 {
     if !names(p, h) {
-        return refused(p, 7);
+        return refused(p, refusals::NOT_LIVE);
     }
     let mut q = p;
     q.live = release(p.live, h.slot);

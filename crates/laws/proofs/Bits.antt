@@ -1,14 +1,13 @@
 -- The binary digits of a number, at any width: of `|`, `&`, `!`, a power, a shift; of the zeros at either end.
 -- Assumes nothing.
-use mathlib.Core.Path.{_≡_, refl, sym, ap, ap₂, _∙_, subst}
-use mathlib.Core.Logic.{_⊎_, inl, inr, ⊎-elim}
-use Prim.Native.Nat.{ℕ, zero, suc, _+_, _-_, _*_, _/_, _%_, _^_, _≤_, _<_, min, max, zero-le, suc-le-suc}
-use native.Mathlib.Nat.{mod-lt, div-eq-of-lt, div-eq-of-lt-le, div-add-mod', pow-suc, one-mul, mul-assoc, add-sub-of-le, eq-zero-or-pos, le-of-suc-le-suc, not-suc-le-zero, lt-of-lt-of-le, lt-of-le-of-lt, zero-lt-suc}
+use mathlib.Core.Path.{_≡_, refl, sym, ap, _∙_}
+use Prim.Native.Nat.{ℕ, zero, suc, _+_, _-_, _*_, _/_, _%_, _^_, _≤_, _<_, min, max, suc-le-suc}
+use native.Mathlib.Nat.{mod-lt, div-eq-of-lt, div-eq-of-lt-le, pow-suc, one-mul, mul-assoc, le-of-suc-le-suc, not-suc-le-zero, lt-of-lt-of-le, zero-lt-suc}
 use native.Mathlib.Decide.{decLt}
-use native.Mathlib.Numerals.{add-one, one-add}
+use native.Mathlib.Numerals.{one-add}
 use native.Mathlib.Omega.{arith}
-use lib.Arith.{digits-mod, lt-one}
-use lib.Pow.{field, mod-mod-pow, pow-pos, pow-lt, pow-mono, pow-add, shl-shr, shr-shr, shr-lt}
+use lib.Arith.{digits-mod}
+use lib.Pow.{field, mod-mod-pow, pow-pos, pow-lt, pow-mono, pow-add, shl-shr, shr-shr}
 use lib.Bits.{bitAnd, bitOr, and-step, or-step, and-shr, or-shr, shifted-even}
 use lib.Count.{leadingZeros, leading-top, trailingZeros, under}
 use Rattle.laws.specs.Live.{bit}

@@ -1,13 +1,13 @@
 -- What a copy, a move and a zero fill leave at each place: the copied elements where they went, everything else as it was.
 -- Assumes nothing.
-use mathlib.Core.Path.{_≡_, refl, sym, ap, _∙_, subst}
-use mathlib.Core.List.{List, [], _∷_, _++_, append-assoc}
-use Prim.Native.Nat.{ℕ, zero, suc, _+_, _-_, _≤_, _<_}
+use mathlib.Core.Path.{_≡_, ap, _∙_, subst}
+use mathlib.Core.List.{List, _++_, append-assoc}
+use Prim.Native.Nat.{ℕ, _+_, _-_, _≤_}
 use native.Mathlib.Nat.{add-zero}
 use native.Mathlib.Omega.{arith}
-use lib.ListN.{length, take, drop, replicate, length-append, length-take, length-drop, length-replicate}
+use lib.ListN.{length, take, drop, length-append, length-take, length-drop}
 use lib.Seq.{length-take-le}
-use Rattle.laws.specs.Lists.{part, copied, moved, zeroed}
+use Rattle.laws.specs.Lists.{part, copied}
 use Rattle.laws.proofs.Lists.{length-part, part-take, part-drop, part-part, part-append-left, part-append-right}
 
 module _ {ℓ} {A : Type ℓ} (x : List A) (s l : ℕ) (d : List A) (t : ℕ) (hs : s + l ≤ length x) (ht : t + l ≤ length d) where

@@ -1,10 +1,10 @@
 -- The part of a list: its length, its elements, a part of a part, of a concatenation, of a list with one element stored.
 -- Assumes nothing.
-use mathlib.Core.Path.{_≡_, refl, sym, ap, _∙_, subst}
+use mathlib.Core.Path.{_≡_, refl, _∙_, subst}
 use mathlib.Core.List.{List, [], _∷_, _++_}
 use Prim.Native.Nat.{ℕ, zero, suc, _+_, _-_, _≤_, _<_}
 use native.Mathlib.Omega.{arith}
-use lib.ListN.{length, take, drop, getD, set, length-append, length-take, length-drop, length-set}
+use lib.ListN.{length, take, drop, getD, set, length-take, length-drop}
 use lib.Seq.{take-append-le, drop-append-le, drop-append-add, take-take, drop-drop, take-add, take-set-le, drop-set-lt, take-set-lt, drop-set-add, getD-take, getD-drop}
 use Rattle.laws.specs.Lists.{part}
 

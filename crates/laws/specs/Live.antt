@@ -1,6 +1,6 @@
 -- The slots of a word of w bits. Slot p, counted from 1 at the top, is the bit w - p: at w = 8, 0x80 shifted right by p - 1.
-use Prim.Native.Nat.{ℕ, zero, suc, _-_, _+_, _/_, _%_, _^_}
-use mathlib.Core.Bool.{Bool, true, false}
+use Prim.Native.Nat.{ℕ, zero, suc, _-_, _/_, _%_, _^_}
+use mathlib.Core.Bool.{Bool}
 use lib.Dec.{eqb}
 use lib.Bits.{bitAnd, bitOr}
 use Rattle.laws.specs.Tests.{pick, implies, every}

@@ -4,7 +4,7 @@ use Rattle.buffer_pool.proofs.ByteLaws.{copied-none, copied-more, copie
 use Rattle.laws.specs.Lists.{copied}
 use mathlib.Core.Path.{_≡_}
 use lib.ListN.{length}
-use Prim.Native.Nat.{_+_, _-_, _≤_}
+use Prim.Native.Nat.{_-_, _≤_}
 use Rattle.buffer_pool.proofs.inner_memory.copy_between.Statement.{statement}
 use Rattle.buffer_pool.proofs.inner_memory.copy_between.Tie as tie
 

@@ -4,7 +4,7 @@ use Rattle.buffer_pool.proofs.ByteLaws.{zeroed-none, zeroed-more, zeroe
 use Rattle.laws.specs.Lists.{zeroed}
 use mathlib.Core.Path.{_≡_}
 use lib.ListN.{length}
-use Prim.Native.Nat.{_+_, _-_, _≤_}
+use Prim.Native.Nat.{_-_, _≤_}
 use Rattle.buffer_pool.proofs.inner_memory.fill_zero.Statement.{statement}
 use Rattle.buffer_pool.proofs.inner_memory.fill_zero.Tie as tie
 

@@ -4,7 +4,7 @@ use Rattle.buffer_pool.proofs.ByteLaws.{moved-none, down-more, down-all
 use Rattle.laws.specs.Lists.{moved}
 use mathlib.Core.Path.{_≡_}
 use lib.ListN.{length}
-use Prim.Native.Nat.{_+_, _-_, _≤_}
+use Prim.Native.Nat.{_-_, _≤_}
 use Rattle.buffer_pool.proofs.inner_memory.move_down.Statement.{statement}
 use Rattle.buffer_pool.proofs.inner_memory.move_down.Tie as tie
 

@@ -1,7 +1,7 @@
 -- `sound::alloc_numbers` meets its contract. Assumes nothing.
 use Rattle.buffer_pool.proofs.SoundTestLaws.{overflow-within}
 use Rattle.buffer_pool.specs.Soundness.{allocSound}
-use borrow.Author.Tests.{lt-ltb, le-ltb, lt-leb, le-leb, eq-eqb, ne-eqb}
+use borrow.Author.Tests.{eq-eqb, ne-eqb}
 use borrow.Author.Needs.{needs}
 use Rattle.buffer_pool.proofs.sound.alloc_numbers.Statement.{statement}
 use Rattle.buffer_pool.proofs.sound.alloc_numbers.Tie as tie

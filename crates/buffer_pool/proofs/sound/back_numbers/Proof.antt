@@ -1,6 +1,6 @@
 -- `sound::back_numbers` meets its contract. Assumes nothing.
 use Rattle.buffer_pool.specs.Soundness.{backNumbers}
-use borrow.Author.Tests.{lt-ltb, le-ltb, lt-leb, le-leb, eq-eqb, ne-eqb}
+use borrow.Author.Tests.{eq-eqb, ne-eqb}
 use borrow.Author.Needs.{needs}
 use Rattle.buffer_pool.proofs.sound.back_numbers.Statement.{statement}
 use Rattle.buffer_pool.proofs.sound.back_numbers.Tie as tie

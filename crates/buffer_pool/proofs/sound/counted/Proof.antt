@@ -1,7 +1,7 @@
 -- `sound::counted` meets its contract. Assumes nothing.
 use Rattle.buffer_pool.proofs.SoundTestLaws.{past-back, within-back}
 use Rattle.buffer_pool.specs.Soundness.{counted}
-use borrow.Author.Tests.{lt-ltb, le-ltb, lt-leb, le-leb, eq-eqb, ne-eqb}
+use borrow.Author.Tests.{lt-ltb, le-ltb, lt-leb, le-leb, eq-eqb}
 use borrow.Author.Needs.{needs}
 use Rattle.buffer_pool.proofs.sound.counted.Statement.{statement}
 use Rattle.buffer_pool.proofs.sound.counted.Tie as tie

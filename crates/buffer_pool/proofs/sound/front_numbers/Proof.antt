@@ -1,6 +1,6 @@
 -- `sound::front_numbers` meets its contract. Assumes nothing.
 use Rattle.buffer_pool.specs.Soundness.{frontNumbers}
-use borrow.Author.Tests.{lt-ltb, le-ltb, lt-leb, le-leb, eq-eqb, ne-eqb}
+use borrow.Author.Tests.{lt-leb, le-leb, eq-eqb, ne-eqb}
 use borrow.Author.Needs.{needs}
 use Rattle.buffer_pool.proofs.sound.front_numbers.Statement.{statement}
 use Rattle.buffer_pool.proofs.sound.front_numbers.Tie as tie

@@ -7,6 +7,9 @@ use Rattle.buffer_pool.proofs.steps.names.Tie as tie
 returns : tie.Need-returns
 returns c = search slot-zero
 
+cast-if2 : tie.Need-cast-if2
+cast-if2 c = search needs
+
 returns-2 : tie.Need-returns-2
 returns-2 c = search slot-past
 
@@ -54,6 +57,7 @@ names-spec =
     tie.close
     (tie.spec
     returns
+    cast-if2
     returns-2
     is-live-requires
     returns-3

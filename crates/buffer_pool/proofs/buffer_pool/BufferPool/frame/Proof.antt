@@ -1,5 +1,6 @@
 -- `buffer_pool::BufferPool::frame` meets its contract. Assumes nothing.
-use Rattle.buffer_pool.proofs.ViewLaws.{frame-lies, bytes-there, pointer-there}
+use Rattle.buffer_pool.proofs.ViewPlaces.{frame-lies}
+use Rattle.buffer_pool.proofs.ViewLaws.{bytes-there, pointer-there}
 use borrow.Author.Needs.{needs}
 use Rattle.buffer_pool.proofs.buffer_pool.BufferPool.frame.Statement.{statement}
 use Rattle.buffer_pool.proofs.buffer_pool.BufferPool.frame.Tie as tie

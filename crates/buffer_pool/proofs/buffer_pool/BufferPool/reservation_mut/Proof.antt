@@ -1,5 +1,6 @@
 -- `buffer_pool::BufferPool::reservation_mut` meets its contract. Assumes nothing.
-use Rattle.buffer_pool.proofs.ViewLaws.{reservation-lies, bytes-there, pointer-there}
+use Rattle.buffer_pool.proofs.ViewPlaces.{reservation-lies}
+use Rattle.buffer_pool.proofs.ViewLaws.{bytes-there, pointer-there}
 use borrow.Author.Needs.{needs}
 use Rattle.buffer_pool.proofs.buffer_pool.BufferPool.reservation_mut.Statement.{statement}
 use Rattle.buffer_pool.proofs.buffer_pool.BufferPool.reservation_mut.Tie as tie

@@ -20,8 +20,8 @@ returns c = search take-turned
 take-step-requires : tie.Need-take-step-requires
 take-step-requires c κs = search (own-orderly, own-capacity)
 
-copied-length-requires : tie.Need-copied-length-requires
-copied-length-requires c κs = search needs
+copied-requires : tie.Need-copied-requires
+copied-requires c κs = search needs
 
 same-length-2 : tie.Need-same-length-2
 same-length-2 c = search needs
@@ -43,7 +43,7 @@ returns-3 c =
     let a = c .before .before .before .before .before .before .before .before .before .before .before .before .before .before .before .before .args in
     let g = c .before .before .before .before .before .before .before .before .before .before .before .take-cause in
     let t = c .before .before .before .before .before .before .before .before .before .take-step in
-    let l = c .before .before .before .before .before .before .before .before .copied-length in
+    let l = c .before .before .before .before .before .before .before .before .copied in
     let o = c .before .before .before .before .copy-out in
     take-copies (a .self) (now (a .pool)) (now (a .overflow)) (now (a .destination)) (g .result) (g .ensures) (c .before .before .before .before .before .before .before .before .before .before .if1 .left) (t .result) (t .ensures) (l .result) (l .ensures)
     (c .before .before .before .before .before .before .before .if2 .left) (o .last .1 .0) (o .last .0) (o .ensures .0) (o .ensures .1)
@@ -57,7 +57,7 @@ take-spec =
     same-length
     returns
     take-step-requires
-    copied-length-requires
+    copied-requires
     same-length-2
     returns-2
     copy-out-requires
