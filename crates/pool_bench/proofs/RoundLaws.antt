@@ -1,5 +1,5 @@
 -- The rounds, from what the code knows where it returns. Assumes nothing.
-use mathlib.Core.Path.{_≡_, refl, sym, ap, _∙_}
+use mathlib.Core.Path.{_≡_, ap, _∙_}
 use mathlib.Core.List.{List, []}
 use Prim.Native.Nat.{ℕ, zero, suc, _-_, _≤_, _<_}
 use native.Mathlib.Omega.{arith}
@@ -7,8 +7,9 @@ use Rattle.buffer_pool.specs.declared.slice.Handle.{Handle}
 use Rattle.buffer_pool.specs.declared.buffer_pool.BufferPool.{BufferPool}
 use Rattle.buffer_pool.specs.declared.buffer_pool.Called.{Called}
 use Rattle.buffer_pool.specs.Moves.{Memories}
+use Rattle.buffer_pool.specs.Values.{values}
 use Rattle.buffer_pool.specs.Calls.{Outcome, outcome, new, reserve, commit, take, release}
-use Rattle.pool_bench.specs.Rounds.{State, state, taken, gathered, finished, rounds, started}
+use Rattle.pool_bench.specs.Rounds.{State, state, gathered, finished, rounds, started}
 
 pub gathered-as : (p : BufferPool) (m : Memories) (len : ℕ) (a : Called) (n : Memories) → outcome a n [] ≡ reserve 8 p m len
     → (b : Called) → outcome b n [] ≡ commit 8 (a .pool) n len → state (b .pool) n [] ≡ gathered len (state p m [])
@@ -18,11 +19,11 @@ gathered-as p m len a n e b f =
     ∙ ap (λ (o : Outcome). state (commit 8 (o .call .pool) (o .memory) len .call .pool) (o .memory) []) e
 
 pub finished-as : (p : BufferPool) (m : Memories) (d : List ℕ) (a : Called) (n : Memories) (c : List ℕ) → outcome a n c ≡ take 8 p m d
-    → (h : Handle) → h ≡ taken (a .answer) → (b : Called) → outcome b n [] ≡ release 8 (a .pool) n h → state (b .pool) n c ≡ finished (state p m d)
+    → (h : Handle) → h ≡ values (a .answer) .handle → (b : Called) → outcome b n [] ≡ release 8 (a .pool) n h → state (b .pool) n c ≡ finished (state p m d)
 unfolding finished
 finished-as p m d a n c e h g b f =
     ap (λ (o : Outcome). state (o .call .pool) n c) (f ∙ ap (release 8 (a .pool) n) g)
-    ∙ ap (λ (o : Outcome). state (release 8 (o .call .pool) (o .memory) (taken (o .call .answer)) .call .pool) (o .memory) (o .destination)) e
+    ∙ ap (λ (o : Outcome). state (release 8 (o .call .pool) (o .memory) (values (o .call .answer) .handle) .call .pool) (o .memory) (o .destination)) e
 
 pub round-as : (p : BufferPool) (m : Memories) (d : List ℕ) (len : ℕ) (q : BufferPool) (n : Memories) → state q n [] ≡ gathered len (state p m [])
     → (s : State) → s ≡ finished (state q n d) → s ≡ finished (gathered len (state p m d))

@@ -1,11 +1,9 @@
 -- Rounds of four calls on one pool: the definitions of the crate buffer_pool, one after the other.
-use mathlib.Core.List.{List, []}
+use mathlib.Core.List.{List}
 use Prim.Native.Nat.{ℕ, zero, suc}
-use Rattle.buffer_pool.specs.declared.slice.Handle.{Handle}
 use Rattle.buffer_pool.specs.declared.buffer_pool.BufferPool.{BufferPool}
-use Rattle.buffer_pool.specs.declared.buffer_pool.Answer.{Answer}
-use Rattle.buffer_pool.specs.declared.buffer_pool.Answer.the-variants.{Done, Reserved, Framed, Taken, Copied, Refused}
 use Rattle.buffer_pool.specs.Record.{slotCount}
+use Rattle.buffer_pool.specs.Values.{values}
 use Rattle.buffer_pool.specs.Moves.{Memories}
 use Rattle.buffer_pool.specs.Calls.{Outcome, new, reserve, commit, take, release}
 
@@ -18,18 +16,6 @@ pub record State : Type 0 where
 abbrev pub state : BufferPool → Memories → List ℕ → State
 state held memory destination = record { held = held; memory = memory; destination = destination }
 
-abbrev pub noHandle : Handle
-noHandle = record { slot = 0; start = 0; length = 0; serial = 0 }
-
--- the handle that a take gave
-abbrev pub taken : Answer → Handle
-taken Done = noHandle
-taken (Reserved p changes) = noHandle
-taken (Framed p) = noHandle
-taken (Taken h) = h
-taken (Copied n) = noHandle
-taken (Refused number) = noHandle
-
 -- reserve and commit len bytes
 unfoldable pub gathered : ℕ → State → State
 gathered len s =
@@ -40,7 +26,7 @@ gathered len s =
 unfoldable pub finished : State → State
 finished s =
     let a : Outcome = take slotCount (s .held) (s .memory) (s .destination) in
-    state (release slotCount (a .call .pool) (a .memory) (taken (a .call .answer)) .call .pool) (a .memory) (a .destination)
+    state (release slotCount (a .call .pool) (a .memory) (values (a .call .answer) .handle) .call .pool) (a .memory) (a .destination)
 
 unfoldable pub rounds : ℕ → ℕ → State → State
 rounds len zero s = s

@@ -3,35 +3,7 @@ ghost use mathlib.Core.Path.{_≡_};
 ghost use mathlib.Core.List.{[]};
 ghost use Rattle.buffer_pool.specs.Moves.{memories};
 ghost use Rattle.pool_bench.specs.Rounds as spec;
-use buffer_pool::buffer_pool::Answer;
 use buffer_pool::buffer_pool::BufferPool;
-use buffer_pool::slice::Handle;
-
-// A handle that names no slice.
-fn no_handle() -> Handle
-    ensures { λ r. ⌜ r ≡ spec.noHandle ⌝ }
-{
-    Handle {
-        slot: 0,
-        start: 0,
-        length: 0,
-        serial: 0,
-    }
-}
-
-// The handle that a take gave.
-fn taken(answer: Answer) -> Handle
-    ensures { λ r. ⌜ r ≡ spec.taken answer ⌝ }
-{
-    match answer {
-        Answer::Done => no_handle(),
-        Answer::Reserved(_, _) => no_handle(),
-        Answer::Framed(_) => no_handle(),
-        Answer::Taken(h) => h,
-        Answer::Copied(_) => no_handle(),
-        Answer::Refused(_) => no_handle(),
-    }
-}
 
 // A frame of `len` bytes: reserve and commit.
 fn gathered(p: BufferPool, pool: &mut [u8], overflow: &mut [u8], len: u64) -> BufferPool
@@ -50,7 +22,7 @@ fn finished(p: BufferPool, pool: &[u8], overflow: &mut [u8], destination: &mut [
     let took = p.take(pool, overflow, destination);
     let answer = took.answer;
     let q = took.pool;
-    let released = q.release(pool, overflow, taken(answer));
+    let released = q.release(pool, overflow, answer.handle());
     released.pool
 }
 

@@ -11,7 +11,7 @@ use buffer_pool::slice::Handle;
 use libc::STDIN_FILENO;
 use libc::STDOUT_FILENO;
 
-// One byte at `at`, where there is room; gives the next place.
+// One byte at `at`, where there is room. Each `put` gives the place after what it put.
 fn put(out: &mut [u8], at: usize, b: u8) -> usize {
     if at < out.len() {
         out[at] = b;
@@ -100,13 +100,14 @@ fn byte_at(file: &[u8], at: usize) -> u64
     0
 }
 
+// A byte as a wider number.
 fn wide(b: u8) -> u64
     ensures { λ r. ⌜ r ≤ 255 ⌝ }
 {
     b as u64
 }
 
-// The number of four bytes at `at`, lowest byte first.
+// The number of four bytes at `at`, lowest byte first. Bytes past the file's end count as 0, and so does a number far past it.
 fn number_at(file: &[u8], at: usize) -> u64
     ensures { λ r. ⌜ r ≤ 4294967295 ⌝ }
 {
@@ -119,25 +120,26 @@ fn number_at(file: &[u8], at: usize) -> u64
         + 16777216 * byte_at(file, at + 3)
 }
 
-// An event of a list.
-struct Event {
+// An event of a list (oracle/README.md): kinds 1 to 5 are calls, 6 to 8 writes.
+struct ListEvent {
     kind: u64,
     value: u64,
     serial: u64,
     number: u64,
 }
 
-// The event of 16 bytes at `at`. A number past 2^63 is read as 2^64 - 1.
-fn event_at(file: &[u8], at: usize) -> Event {
+// The event of 16 bytes at `at`: kind, value, two bytes that are not read, serial, and a number of eight bytes. Far past the file's end
+// all of it is 0.
+fn event_at(file: &[u8], at: usize) -> ListEvent {
     if 100_000_000 < at {
-        return Event {
+        return ListEvent {
             kind: 0,
             value: 0,
             serial: 0,
             number: 0,
         };
     }
-    Event {
+    ListEvent {
         kind: byte_at(file, at),
         value: byte_at(file, at + 1),
         serial: number_at(file, at + 4),
@@ -145,7 +147,7 @@ fn event_at(file: &[u8], at: usize) -> Event {
     }
 }
 
-// The letter of a kind: document 01's for the calls, `w` for a write.
+// The letter of a kind: that of SPECIFICATION 9.4 for the calls, `w` for a write.
 fn letter(kind: u64) -> u8 {
     if kind == 1 {
         return b'r';
@@ -165,6 +167,7 @@ fn letter(kind: u64) -> u8 {
     b'w'
 }
 
+// The letter of a mode.
 fn mode_letter(mode: PoolMode) -> u8 {
     match mode {
         PoolMode::Back => b'B',
@@ -173,7 +176,7 @@ fn mode_letter(mode: PoolMode) -> u8 {
     }
 }
 
-// The handle of slot `slot` as the record has it.
+// The handle of slot `slot` as the record has it, and no handle where there is no such slot.
 fn entry(p: BufferPool, slot: usize) -> Handle {
     let starts = p.starts;
     let lengths = p.lengths;
@@ -181,7 +184,7 @@ fn entry(p: BufferPool, slot: usize) -> Handle {
     if slot < 1 {
         return no_handle();
     }
-    if 8 < slot {
+    if BufferPool::POOL_CAPACITY < slot {
         return no_handle();
     }
     Handle {
@@ -205,7 +208,7 @@ fn no_handle() -> Handle {
 // The handle of the live slice with this serial; one that names no slice where there is none.
 fn handle_of(p: BufferPool, pool: &[u8], overflow: &[u8], serial: u64) -> Handle {
     let mut slot = 1usize;
-    while slot <= 8 {
+    while slot <= BufferPool::POOL_CAPACITY {
         let h = entry(p, slot);
         if h.serial as u64 == serial {
             if p.slice_number(pool, overflow, h) == 0 {
@@ -217,7 +220,7 @@ fn handle_of(p: BufferPool, pool: &[u8], overflow: &[u8], serial: u64) -> Handle
     no_handle()
 }
 
-// One byte of a view, where the view reaches.
+// Sets byte `i` of a view, where the view reaches.
 fn write(view: &mut [u8], i: u64, value: u64) {
     if i < view.len() as u64 {
         if value < 256 {
@@ -226,7 +229,7 @@ fn write(view: &mut [u8], i: u64, value: u64) {
     }
 }
 
-// A place as the line shows it.
+// What a line tells of an event: its refusal or 0, a start and a length, and how often the mode changed.
 struct Told {
     refusal: u8,
     start: u64,
@@ -243,19 +246,26 @@ fn tell(refusal: u8, start: u64, length: u64, changes: u32) -> Told {
     }
 }
 
-// What an answer shows.
+// What the line tells of an answer: a slice's start and length, the count of bytes copied, or the place.
 fn answer_told(answer: Answer) -> Told {
-    match answer {
-        Answer::Done => tell(0, 0, 0, 0),
-        Answer::Reserved(p, changes) => tell(0, p.start, p.length, changes),
-        Answer::Framed(p) => tell(0, p.start, p.length, 0),
-        Answer::Taken(h) => tell(0, h.start as u64, h.length as u64, 0),
-        Answer::Copied(n) => tell(0, 0, n, 0),
-        Answer::Refused(number) => tell(number, 0, 0, 0),
+    let h = answer.handle();
+    if h.slot != 0 {
+        return tell(0, h.start as u64, h.length as u64, 0);
     }
+    let copied = answer.copied();
+    if copied != 0 {
+        return tell(0, 0, copied, 0);
+    }
+    let place = answer.place();
+    tell(
+        answer.refusal(),
+        place.start,
+        place.length,
+        answer.changes(),
+    )
 }
 
-// Refusal, mode and live slots of a line.
+// Kind, refusal, mode and live slots of a line.
 fn put_state(out: &mut [u8], at: usize, p: BufferPool, kind: u64, refusal: u8) -> usize {
     let mode = p.mode;
     let mut place = put(out, at, b' ');
@@ -267,7 +277,7 @@ fn put_state(out: &mut [u8], at: usize, p: BufferPool, kind: u64, refusal: u8) -
     put_hex(out, place, p.live)
 }
 
-// The numbers of a line.
+// A line from the kind on, without bytes.
 fn put_numbers(out: &mut [u8], at: usize, p: BufferPool, kind: u64, s: Told) -> usize {
     let mut place = put_state(out, at, p, kind, s.refusal);
     place = put_number(out, place, s.start);
@@ -295,7 +305,7 @@ fn put_slot(
 fn put_slices(out: &mut [u8], at: usize, p: BufferPool, pool: &[u8], overflow: &[u8]) -> usize {
     let mut place = at;
     let mut slot = 1usize;
-    while slot <= 8 {
+    while slot <= BufferPool::POOL_CAPACITY {
         place = put_slot(out, place, p, pool, overflow, slot);
         slot += 1;
     }
@@ -315,14 +325,14 @@ fn put_shown<'a>(
     put_slices(out, place, p, pool, overflow)
 }
 
-// The record after an event, and what its line tells.
+// The record after an event, what its line tells, and how many bytes of the destination it shows.
 struct Ran {
     p: BufferPool,
     told: Told,
     copied: usize,
 }
 
-// The record and the answer of a call.
+// A call's record and answer, and how many bytes of the destination its line shows.
 fn called(c: Called, copied: usize) -> Ran {
     let p = c.pool;
     let answer = c.answer;
@@ -358,14 +368,6 @@ fn release(p: BufferPool, pool: &[u8], overflow: &[u8], serial: u64) -> Ran {
     }
 }
 
-// How many bytes a take copied.
-fn copied_of(answer: Answer) -> u64 {
-    match answer {
-        Answer::Copied(n) => n,
-        _ => 0,
-    }
-}
-
 // The smaller of two lengths.
 fn shorter(n: usize, length: u64) -> usize
     ensures { λ r. ⌜ r ≤ n ⌝ }
@@ -376,7 +378,8 @@ fn shorter(n: usize, length: u64) -> usize
     n
 }
 
-// Take with a destination of `e.number` bytes, or of all that there are where that is more.
+// Take with the first `length` bytes of the destination, or with all where it is shorter. The line shows a copied frame of at most 64
+// bytes.
 fn take(
     p: BufferPool,
     pool: &[u8],
@@ -387,15 +390,15 @@ fn take(
     let n = shorter(destination.len(), length);
     let c = p.take(pool, overflow, &mut destination[..n]);
     let answer = c.answer;
-    let copied = copied_of(answer);
+    let copied = answer.copied();
     if copied <= 64 {
         return called(c, copied as usize);
     }
     called(c, 0)
 }
 
-// A write through the view of a handle's slice.
-fn write_slice(p: BufferPool, pool: &mut [u8], overflow: &[u8], e: Event) -> Ran {
+// A write through the view of the slice with the event's serial; no write where none is live.
+fn write_slice(p: BufferPool, pool: &mut [u8], overflow: &[u8], e: ListEvent) -> Ran {
     let h = handle_of(p, pool, overflow, e.serial);
     if p.slice_number(pool, overflow, h) != 0 {
         return written(p, 0, 0);
@@ -404,33 +407,20 @@ fn write_slice(p: BufferPool, pool: &mut [u8], overflow: &[u8], e: Event) -> Ran
     written(p, h.start as u64, h.length as u64)
 }
 
-// A write through the frame's view, and through the reservation's.
-fn write_frame(p: BufferPool, pool: &mut [u8], overflow: &mut [u8], e: Event) -> Ran {
-    let c = p.commit(pool, overflow, 0);
-    let answer = c.answer;
-    let told = answer_told(answer);
+// A write through the frame's view. The line tells the frame's place.
+fn write_frame(p: BufferPool, pool: &mut [u8], overflow: &mut [u8], e: ListEvent) -> Ran {
+    let v = p.frame_view(pool, overflow);
+    let place = v.place;
     write(p.frame_mut(pool, overflow), e.number, e.value);
-    written(p, told.start, told.length)
+    written(p, place.start, place.length)
 }
 
-// A write through the reservation's view, which begins where the frame ends.
-fn write_reservation(p: BufferPool, pool: &mut [u8], overflow: &mut [u8], e: Event) -> Ran {
-    let c = p.commit(pool, overflow, 0);
-    let answer = c.answer;
-    let told = answer_told(answer);
+// A write through the reservation's view. The line tells the reservation's place.
+fn write_reservation(p: BufferPool, pool: &mut [u8], overflow: &mut [u8], e: ListEvent) -> Ran {
+    let v = p.reservation_view(pool, overflow);
+    let place = v.place;
     write(p.reservation_mut(pool, overflow), e.number, e.value);
-    written(p, sum(told.start, told.length), p.reserved)
-}
-
-// The sum of two places in a memory.
-fn sum(a: u64, b: u64) -> u64 {
-    if 4294967295 < a {
-        return 0;
-    }
-    if 4294967295 < b {
-        return 0;
-    }
-    a + b
+    written(p, place.start, place.length)
 }
 
 // One event, through the public calls and views.
@@ -439,7 +429,7 @@ fn run_event(
     pool: &mut [u8],
     overflow: &mut [u8],
     destination: &mut [u8],
-    e: Event,
+    e: ListEvent,
 ) -> Ran {
     if e.kind == 1 {
         return called(p.reserve(pool, overflow, e.number), 0);
@@ -465,14 +455,14 @@ fn run_event(
     write_slice(p, pool, overflow, e)
 }
 
-// The first `k` bytes of a line, where it has so many.
+// Prints the first `k` bytes of a line, where it has so many.
 fn print(out: &[u8], k: usize) {
     if k <= out.len() {
         io::write_all(STDOUT_FILENO, &out[..k]);
     }
 }
 
-// A frame that a take copied.
+// The frame that a take copied, and nothing where it copied none.
 fn put_copied(out: &mut [u8], at: usize, destination: &[u8], n: usize) -> usize {
     if n == 0 {
         return at;
@@ -483,7 +473,7 @@ fn put_copied(out: &mut [u8], at: usize, destination: &[u8], n: usize) -> usize 
     put_bytes(out, at, b'c', &destination[..n])
 }
 
-// The bytes of a line, where the memories are small.
+// The bytes that a line shows, where no memory is longer than 64 bytes.
 fn put_rest<'a>(
     out: &mut [u8],
     at: usize,
@@ -503,7 +493,7 @@ fn put_rest<'a>(
     put_copied(out, k, destination, copied)
 }
 
-// The line of an event.
+// Prints the line of an event.
 fn print_event<'a>(
     number: u64,
     kind: u64,
@@ -522,7 +512,7 @@ fn print_event<'a>(
     print(&out, k);
 }
 
-// The line of a list's sizes.
+// Prints the line of a list's sizes.
 fn print_sizes(capacity: u64, overflow: u64) {
     let mut out = [0u8; 64];
     let mut k = put(&mut out, 0, b'p');
@@ -537,7 +527,7 @@ fn print_sizes(capacity: u64, overflow: u64) {
     print(&out, k);
 }
 
-// The event at `at`, number `number` of its list, and its line.
+// Runs the event at `at`, number `number` of its list, and prints its line; gives the record after it.
 fn turn(
     file: &[u8],
     at: usize,
@@ -553,7 +543,7 @@ fn turn(
     r.p
 }
 
-// The events of a list, from its first at `at` on.
+// Runs the events of a list, from its first at `at` on, on a new pool.
 fn run_events(
     file: &[u8],
     at: usize,
@@ -573,7 +563,7 @@ fn run_events(
     }
 }
 
-// Where event `i` of a list stands in the file.
+// Where the event of index `i` of a list stands in the file, by where the first does; 0 far past the file's end.
 fn place_of(at: usize, i: u64) -> usize {
     if 65536 < i {
         return 0;
@@ -584,7 +574,7 @@ fn place_of(at: usize, i: u64) -> usize {
     at + 16 * i as usize
 }
 
-// One list: its sizes, then its events in memories of these sizes. A list whose sizes are more than the memories has none.
+// One list: its sizes, then its events on memories of these sizes. Where the lent memories are shorter, no event is run.
 fn run_list(file: &[u8], at: usize, pool: &mut [u8], overflow: &mut [u8], destination: &mut [u8]) {
     if 100_000_000 < at {
         return;
@@ -609,7 +599,7 @@ fn run_list(file: &[u8], at: usize, pool: &mut [u8], overflow: &mut [u8], destin
     );
 }
 
-// Where the next list begins.
+// Where the next list begins; past the file's end where a list would have more than 65,536 events.
 fn next_list(file: &[u8], at: usize) -> usize
     requires { ⌜ at ≤ 100000000 ⌝ }
     ensures { λ r. ⌜ at < r ⌝ }
@@ -641,7 +631,7 @@ fn run(file: &[u8], n: usize) {
     run_lists(file, n, &mut pool, &mut overflow, &mut destination);
 }
 
-// Standard input's bytes.
+// Room for standard input, all zeros.
 fn input() -> [u8; 131072]
     ensures { λ r. ⌜ length r ≡ 131072 ⌝ }
 {

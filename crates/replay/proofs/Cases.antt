@@ -1,4 +1,4 @@
--- Document 01's example has document 01's listing, computed from the definitions. Assumes nothing.
+-- The file of SPECIFICATION 12 has the listing that stands there, computed from the definitions. Assumes nothing.
 use mathlib.Core.Path.{_≡_, refl}
 use Rattle.trace.specs.Cases.{header, events, example}
 use Rattle.replay.specs.Listing.{listing}

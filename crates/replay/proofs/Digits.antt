@@ -1,13 +1,15 @@
--- The decimal digits that io::decimal gives are those of the definition: their fewest count is `places`. Assumes nothing.
-use mathlib.Core.Path.{_≡_, refl, sym, ap, _∙_, subst}
+-- The decimal digits that io::decimal gives are those of the definition: their fewest count is `places`; and a number below 10 ^ k
+-- has at most k. Assumes nothing.
+use mathlib.Core.Path.{_≡_, refl, sym, ap, _∙_}
 use mathlib.Core.Bool.{Bool, true, false}
-use mathlib.Core.List.{List}
-use Prim.Native.Nat.{ℕ, zero, suc, _+_, _-_, _/_, _^_, _≤_, _<_}
+use Prim.Native.Nat.{ℕ, zero, suc, _-_, _/_, _^_, _≤_, _<_}
 use native.Mathlib.Nat.{pow-le-pow-right, le-of-suc-le-suc, lt-of-not-le}
 use native.Mathlib.Omega.{arith}
 use borrow.Author.Tests.{ltb-true, ltb-false}
 use lib.Dec.{ltb}
+use lib.ListN.{length, length-append}
 use Rattle.laws.specs.Tests.{pick}
+use Rattle.laws.proofs.Tests.{pick-cases}
 use Rattle.io.specs.Digits.{digits, Fewest}
 use Rattle.replay.specs.Text.{places, decimal}
 
@@ -48,3 +50,34 @@ module _ (n k : ℕ) (h : n < 18446744073709551616) (f : Fewest 10 1 n k) where
   pub digits-are : digits 10 k n ≡ decimal n
   unfolding decimal
   digits-are = ap (λ (j : ℕ). digits 10 j n) (sym (places-few 19 n k (omega arith) f))
+
+-- ---- How many there are
+
+length-digits : (b k n : ℕ) → length (digits b k n) ≡ k
+length-digits b zero n = refl
+length-digits b (suc k) n = length-append (digits b k (n / b)) _ ∙ omega (arith, length-digits b k (n / b))
+
+places-most : (more k n : ℕ) → n < 10 ^ suc k → places more n ≤ suc k
+unfolding places
+places-most zero k n h = omega arith
+places-most (suc more) k n h = go (ltb n 10) refl k h (λ j l. places-most more j (n / 10) l)
+  where
+    go : (t : Bool) → ltb n 10 ≡ t → (k : ℕ) → n < 10 ^ suc k → ((j : ℕ) → n / 10 < 10 ^ suc j → places more (n / 10) ≤ suc j)
+        → pick t 1 (suc (places more (n / 10))) ≤ suc k
+    go true p k l rest = omega arith
+    go false p zero l rest = absurd (omega (arith, ltb-false n 10 p))
+    go false p (suc j) l rest = omega (arith, rest j (omega arith))
+
+pub decimal-most : (k n : ℕ) → n < 10 ^ suc k → length (decimal n) ≤ suc k
+unfolding decimal
+decimal-most k n h = omega (arith, length-digits 10 (places 19 n) n, places-most 19 k n h)
+
+places-any : (more n : ℕ) → places more n ≤ suc more
+unfolding places
+places-any zero n = omega arith
+places-any (suc more) n =
+    pick-cases (λ (k : ℕ). k ≤ suc (suc more)) (ltb n 10) (λ t. omega arith) (λ t. omega (arith, places-any more (n / 10)))
+
+pub decimal-any : (n : ℕ) → length (decimal n) ≤ 20
+unfolding decimal
+decimal-any n = omega (arith, length-digits 10 (places 19 n) n, places-any 19 n)

@@ -1,29 +1,25 @@
 -- One event, from what the code of event.rt knows where it returns. Assumes nothing.
-use mathlib.Core.Path.{_≡_, refl, sym, ap, _∙_, subst}
-use mathlib.Core.Bool.{Bool, true, false, not, _&&_}
+use mathlib.Core.Path.{_≡_, refl, sym, ap, _∙_}
+use mathlib.Core.Bool.{Bool, true, false, not}
 use mathlib.Core.List.{List, []}
-use Prim.Native.Nat.{ℕ, zero, suc, _+_, _-_, _*_, _/_, _≤_, _<_, _^_, min}
+use Prim.Native.Nat.{ℕ, _+_, _-_, _*_, _/_, _≤_, _<_, min}
 use native.Mathlib.Omega.{arith}
 use borrow.Author.Tests.{eq-eqb, ne-eqb, lt-leb, le-leb}
-use lib.Dec.{eqb, leb}
 use lib.ListN.{length, take, drop}
 use lib.Seq.{sets}
-use Rattle.laws.specs.Tests.{pick}
 use Rattle.laws.specs.Lists.{part}
 use Rattle.laws.proofs.Tests.{not-true, not-false}
 use Rattle.buffer_pool.specs.declared.slice.Handle.{Handle}
 use Rattle.buffer_pool.specs.declared.buffer_pool.BufferPool.{BufferPool}
 use Rattle.buffer_pool.specs.declared.buffer_pool.PoolFront.{PoolFront}
-use Rattle.buffer_pool.specs.declared.buffer_pool.PoolMode.{PoolMode}
 use Rattle.buffer_pool.specs.declared.buffer_pool.PoolMode.the-variants.{Back, Front, Alloc}
 use Rattle.buffer_pool.specs.declared.buffer_pool.Place.{Place}
 use Rattle.buffer_pool.specs.declared.buffer_pool.Answer.{Answer}
-use Rattle.buffer_pool.specs.declared.buffer_pool.Answer.the-variants.{Done, Reserved, Framed, Taken, Copied, Refused}
 use Rattle.buffer_pool.specs.declared.buffer_pool.Called.{Called}
 use Rattle.buffer_pool.specs.Moves.{Memories, memories}
 use Rattle.buffer_pool.specs.Calls as calls
 use Rattle.buffer_pool.specs.Calls.{Outcome, outcome}
-use Rattle.buffer_pool.specs.Steps.{refusal}
+use Rattle.buffer_pool.specs.Values.{values}
 use Rattle.trace.specs.declared.Event.{Event}
 use Rattle.replay.specs.declared.event.Tally.{Tally}
 use Rattle.replay.specs.declared.event.State.{State}
@@ -33,22 +29,20 @@ use Rattle.replay.specs.declared.event.Shown.{Shown}
 use Rattle.replay.specs.declared.event.Step.{Step}
 use Rattle.replay.specs.Text.{output, wrote}
 use Rattle.replay.specs.Slots.{handleOf}
-use Rattle.replay.specs.Run.{refusedOf, takenOf, spilledOf, counted, percent, kindLetter, modeLetter, extent, extentOf, inPool, starts, startsOf, shownOf, fills, filling, filled, beside, callOf, Running, running, Stepped, stepped, stepOf, step}
+use Rattle.replay.specs.Run.{counted, percent, kindLetter, modeLetter, extent, takeExtent, releaseExtent, extentOf, inPool, starts, startsOf, shownOf, fills, filling, filled, callOf, running, stepped, stepOf, step}
 use Rattle.replay.proofs.TextLaws.{sets-past}
 
 -- ---- Counting
 
-pub counted-as : (t : Tally) (answer : Answer) (nay take spill : ℕ) → nay ≡ refusedOf answer → take ≡ takenOf answer → spill ≡ spilledOf answer
-    → record { done = t .done + (1 - nay); refused = t .refused + nay; takes = t .takes + take; spilled = t .spilled + spill } ≡ counted t answer
-unfolding counted
-counted-as t answer nay take spill a b c = rw (a, b, c) refl
-
-module _ (answer : Answer) (n k : ℕ) (e : answer ≡ Copied n) (m : k ≡ min n 1) where
-  pub taken-copied : k ≡ takenOf answer
-  taken-copied = m ∙ rw e refl
-
-  pub spilled-copied : k ≡ spilledOf answer
-  spilled-copied = m ∙ rw e refl
+-- what an answer says, and the three counts that are read off it
+module _ (t : Tally) (a : Answer) (number : ℕ) (x : number ≡ values a .number) (h : Handle) (y : h ≡ values a .handle) (copied : ℕ)
+    (z : copied ≡ values a .length) where
+  pub counted-as : (either nay take spill : ℕ) → min either 1 ≡ min (h .slot + copied) 1 → nay ≡ min number 1 → take ≡ min either 1
+      → spill ≡ min copied 1
+      → record { done = t .done + (1 - nay); refused = t .refused + nay; takes = t .takes + take; spilled = t .spilled + spill }
+      ≡ counted t (values a)
+  unfolding counted
+  counted-as either nay take spill e n k s = rw (n, k, e, s, x, y, z) refl
 
 pub percent-none : (t : Tally) → t .takes ≡ 0 → 0 ≡ percent t
 unfolding percent
@@ -60,24 +54,38 @@ percent-some t n = rw (ne-eqb (t .takes) 0 n) refl
 
 -- ---- What a line shows
 
-module _ (h : Handle) (answer : Answer) where
-  pub extent-done : answer ≡ Done → extent (h .start) (h .length) ≡ extentOf h answer
-  extent-done e = rw e refl
+module _ (a : Answer) where
+  module _ (g : Handle) (e : g ≡ values a .handle) where
+    pub take-none : g .slot ≡ 0 → (n : ℕ) → n ≡ values a .length → extent 0 n ≡ takeExtent (values a)
+    unfolding takeExtent
+    take-none z n f = rw (← e, eq-eqb (g .slot) 0 z, f) refl
 
-  pub extent-reserved : (p : Place) (changes : ℕ) → answer ≡ Reserved p changes → extent (p .start) (p .length) ≡ extentOf h answer
-  extent-reserved p changes e = rw e refl
+    pub take-some : (g .slot ≡ 0 → ⊥) → extent (g .start) (g .length) ≡ takeExtent (values a)
+    unfolding takeExtent
+    take-some n = rw (← e, ne-eqb (g .slot) 0 n) refl
 
-  pub extent-framed : (p : Place) → answer ≡ Framed p → extent (p .start) (p .length) ≡ extentOf h answer
-  extent-framed p e = rw e refl
+  module _ (h : Handle) (number : ℕ) (e : number ≡ values a .number) where
+    pub release-refused : (number ≡ 0 → ⊥) → extent 0 0 ≡ releaseExtent h (values a)
+    unfolding releaseExtent
+    release-refused n = rw (← e, ne-eqb number 0 n) refl
 
-  pub extent-taken : (g : Handle) → answer ≡ Taken g → extent (g .start) (g .length) ≡ extentOf h answer
-  extent-taken g e = rw e refl
+    pub release-done : number ≡ 0 → extent (h .start) (h .length) ≡ releaseExtent h (values a)
+    unfolding releaseExtent
+    release-done z = rw (← e, eq-eqb number 0 z) refl
 
-  pub extent-copied : (n : ℕ) → answer ≡ Copied n → extent 0 n ≡ extentOf h answer
-  extent-copied n e = rw e refl
+  module _ (kind : ℕ) (h : Handle) where
+    pub extent-take : kind ≡ 3 → (x : Extent) → x ≡ takeExtent (values a) → x ≡ extentOf kind h (values a)
+    unfolding extentOf
+    extent-take k x e = e ∙ rw (eq-eqb kind 3 k) refl
 
-  pub extent-refused : (number : ℕ) → answer ≡ Refused number → extent 0 0 ≡ extentOf h answer
-  extent-refused number e = rw e refl
+    module _ (n : kind ≡ 3 → ⊥) where
+      pub extent-release : kind ≡ 5 → (x : Extent) → x ≡ releaseExtent h (values a) → x ≡ extentOf kind h (values a)
+      unfolding extentOf
+      extent-release k x e = e ∙ rw (ne-eqb kind 3 n, eq-eqb kind 5 k) refl
+
+      pub extent-place : (kind ≡ 5 → ⊥) → (p : Place) → p ≡ values a .place → extent (p .start) (p .length) ≡ extentOf kind h (values a)
+      unfolding extentOf
+      extent-place m p e = rw (ne-eqb kind 3 n, ne-eqb kind 5 m, e) refl
 
 module _ (kind : ℕ) (r q : BufferPool) where
   pub starts-kind : (kind ≡ 1 → ⊥) → starts 0 0 ≡ startsOf kind r q
@@ -99,7 +107,7 @@ module _ (kind : ℕ) (r q : BufferPool) where
       starts-both k = rw (eq-eqb kind 1 e, ← x, not-false a h, ← y, not-false b k) refl
 
 pub shown-as : (kind : ℕ) (r : BufferPool) (h : Handle) (c : Called) (letter number mode : ℕ) (place : Extent) (frame : Starts)
-    → letter ≡ kindLetter kind → number ≡ refusal (c .answer) → mode ≡ modeLetter (c .pool .mode) → place ≡ extentOf h (c .answer)
+    → letter ≡ kindLetter kind → number ≡ values (c .answer) .number → mode ≡ modeLetter (c .pool .mode) → place ≡ extentOf kind h (values (c .answer))
     → frame ≡ startsOf kind r (c .pool)
     → record { kind = letter; refusal = number; mode = mode; live = c .pool .live; place = place; frame = frame } ≡ shownOf kind r h c
 unfolding shownOf
@@ -184,7 +192,7 @@ pub call-filled : (r : BufferPool) (m n : Memories) (text d : List ℕ) (e : Eve
     → o ≡ callOf r (filled r text m) d e h
 call-filled r m n text d e h o a b = b ∙ ap (λ (x : Memories). callOf r x d e h) a
 
-pub step-of : (s : State) (e : Event) (h : Handle) (next : ℕ) (c : Called) (t : Tally) (l : Shown) → t ≡ counted (s .tally) (c .answer)
+pub step-of : (s : State) (e : Event) (h : Handle) (next : ℕ) (c : Called) (t : Tally) (l : Shown) → t ≡ counted (s .tally) (values (c .answer))
     → l ≡ shownOf (e .kind) (s .pool) h c
     → record { state = record { pool = c .pool; next = next; tally = t }; shown = l } ≡ stepOf s e h next c
 unfolding stepOf

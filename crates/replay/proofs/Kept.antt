@@ -1,28 +1,27 @@
 -- What a run keeps: the record stays sound, so that every frame start is a small number; the trace bytes used are some of
 -- those there are; and no count exceeds the number of events. Assumes nothing.
-use mathlib.Core.Path.{_≡_, refl, sym, ap, _∙_, subst}
-use mathlib.Core.Bool.{Bool, true, false, not, _&&_, _||_}
+use mathlib.Core.Path.{_≡_}
+use mathlib.Core.Bool.{true, not, _&&_, _||_}
 use mathlib.Core.List.{List, []}
-use Prim.Native.Nat.{ℕ, zero, suc, _+_, _-_, _≤_, _<_, min}
+use Prim.Native.Nat.{ℕ, _+_, _-_, _≤_}
 use native.Mathlib.Omega.{arith}
 use borrow.Author.Tests.{ltb-false}
 use lib.Dec.{ltb, eqb}
 use lib.ListN.{length}
-use Rattle.laws.specs.Tests.{pick}
-use Rattle.laws.specs.Lists.{part}
 use Rattle.laws.proofs.Tests.{pick-cases, either-false}
 use Rattle.buffer_pool.specs.declared.slice.Handle.{Handle}
 use Rattle.buffer_pool.specs.declared.buffer_pool.BufferPool.{BufferPool}
 use Rattle.buffer_pool.specs.declared.buffer_pool.PoolMode.{PoolMode}
 use Rattle.buffer_pool.specs.declared.buffer_pool.PoolMode.the-variants.{Back, Front, Alloc}
-use Rattle.buffer_pool.specs.declared.buffer_pool.Answer.{Answer}
-use Rattle.buffer_pool.specs.declared.buffer_pool.Answer.the-variants.{Done, Reserved, Framed, Taken, Copied, Refused}
+use Rattle.buffer_pool.specs.declared.buffer_pool.Called.{Called}
 use Rattle.buffer_pool.specs.Record.{byteLimit}
+use Rattle.buffer_pool.specs.Values.{Values}
 use Rattle.buffer_pool.specs.Moves.{Memories}
 use Rattle.buffer_pool.specs.Soundness.{sound}
 use Rattle.buffer_pool.specs.Sound.{InMode}
+use Rattle.buffer_pool.specs.Steps.{refused, reserveStep, commitStep, truncateStep, takeStep, releaseStep}
 use Rattle.buffer_pool.specs.Calls as calls
-use Rattle.buffer_pool.specs.Calls.{Outcome, outcome, guardedCall, misfit, new, copiedOut}
+use Rattle.buffer_pool.specs.Calls.{Outcome, guardedCall, misfit, new, copiedOut}
 use Rattle.buffer_pool.proofs.Soundness.{sound-use}
 use Rattle.buffer_pool.proofs.SoundKept as kept
 use Rattle.buffer_pool.proofs.SoundKept.{sound-kept, sound-new}
@@ -30,46 +29,36 @@ use Rattle.trace.specs.declared.Event.{Event}
 use Rattle.replay.specs.declared.event.Tally.{Tally}
 use Rattle.replay.specs.declared.event.Starts.{Starts}
 use Rattle.replay.specs.Slots.{handleOf}
-use Rattle.replay.specs.Run.{refusedOf, takenOf, spilledOf, counted, Within, inPool, starts, startsOf, shownOf, fills, filling, filled, callOf, Running, stepOf, step}
+use Rattle.replay.specs.Run.{counted, Within, inPool, starts, startsOf, shownOf, fills, filling, callOf, Running, stepOf, step}
 
 -- ---- The record stays sound
+
+-- what holds of a call refused with 1 or 2, and of each call's step, holds of an event's call
+module _ (r : BufferPool) (m : Memories) (P : Called → Type 0) (one : P (refused r 1)) (two : P (refused r 2)) where
+  guarded-by : (d : List ℕ) (o : Outcome) → P (o .call) → P (guardedCall 8 r m d o .call)
+  guarded-by d o h =
+      pick-cases (λ (x : Outcome). P (x .call)) (not (sound 8 r)) (λ t. one)
+      (λ t. pick-cases (λ (x : Outcome). P (x .call)) (misfit r m) (λ u. two) (λ u. h))
+
+  pub call-by-steps : (d : List ℕ) (x : Event) (h : Handle) → ((n : ℕ) → P (reserveStep 8 r n)) → ((n : ℕ) → P (commitStep r n))
+      → ((n : ℕ) → P (truncateStep r n)) → ((n : ℕ) → P (takeStep 8 r n)) → P (releaseStep 8 r h) → P (callOf r m d x h .call)
+  unfolding callOf calls.reserve calls.commit calls.truncate calls.take copiedOut calls.release
+  call-by-steps d x h reserve commit truncate take release =
+      pick-cases (λ (o : Outcome). P (o .call)) (eqb (x .kind) 1) (λ t. guarded-by [] _ (reserve (x .number)))
+      (λ t. pick-cases (λ (o : Outcome). P (o .call)) (eqb (x .kind) 2) (λ t. guarded-by [] _ (commit (x .number)))
+      (λ t. pick-cases (λ (o : Outcome). P (o .call)) (eqb (x .kind) 3) (λ t. guarded-by d _ (take (length d)))
+      (λ t. pick-cases (λ (o : Outcome). P (o .call)) (eqb (x .kind) 4) (λ t. guarded-by [] _ (truncate (x .number)))
+      (λ t. guarded-by [] _ release))))
+
+call-sound : (r : BufferPool) (m : Memories) (d : List ℕ) (x : Event) (h : Handle) → sound 8 r ≡ true → sound 8 (callOf r m d x h .call .pool) ≡ true
+call-sound r m d x h e =
+    call-by-steps r m (λ (c : Called). sound 8 (c .pool) ≡ true) e e d x h (λ n. sound-kept 8 r (kept.Reserve n) e)
+    (λ n. sound-kept 8 r (kept.Commit n) e) (λ n. sound-kept 8 r (kept.Truncate n) e) (λ n. sound-kept 8 r (kept.Take n) e)
+    (sound-kept 8 r (kept.Release h) e)
 
 -- the record that an outcome leaves is sound
 abbrev Sound : Outcome → Type 0
 Sound o = sound 8 (o .call .pool) ≡ true
-
-module _ (r : BufferPool) (m : Memories) (e : sound 8 r ≡ true) where
-  guarded-sound : (d : List ℕ) (o : Outcome) → Sound o → Sound (guardedCall 8 r m d o)
-  guarded-sound d o h =
-      pick-cases Sound (not (sound 8 r)) (λ t. e) (λ t. pick-cases Sound (misfit r m) (λ u. e) (λ u. h))
-
-  reserve-sound : (n : ℕ) → Sound (calls.reserve 8 r m n)
-  unfolding calls.reserve
-  reserve-sound n = guarded-sound [] _ (sound-kept 8 r (kept.Reserve n) e)
-
-  commit-sound : (n : ℕ) → Sound (calls.commit 8 r m n)
-  unfolding calls.commit
-  commit-sound n = guarded-sound [] _ (sound-kept 8 r (kept.Commit n) e)
-
-  truncate-sound : (n : ℕ) → Sound (calls.truncate 8 r m n)
-  unfolding calls.truncate
-  truncate-sound n = guarded-sound [] _ (sound-kept 8 r (kept.Truncate n) e)
-
-  take-sound : (d : List ℕ) → Sound (calls.take 8 r m d)
-  unfolding calls.take copiedOut
-  take-sound d = guarded-sound d _ (sound-kept 8 r (kept.Take (length d)) e)
-
-  release-sound : (h : Handle) → Sound (calls.release 8 r m h)
-  unfolding calls.release
-  release-sound h = guarded-sound [] _ (sound-kept 8 r (kept.Release h) e)
-
-  call-sound : (d : List ℕ) (x : Event) (h : Handle) → Sound (callOf r m d x h)
-  unfolding callOf
-  call-sound d x h =
-      pick-cases Sound (eqb (x .kind) 1) (λ t. reserve-sound (x .number))
-      (λ t. pick-cases Sound (eqb (x .kind) 2) (λ t. commit-sound (x .number))
-      (λ t. pick-cases Sound (eqb (x .kind) 3) (λ t. take-sound d)
-      (λ t. pick-cases Sound (eqb (x .kind) 4) (λ t. truncate-sound (x .number)) (λ t. release-sound h))))
 
 pub new-sound : (m : Memories) → Sound (new 8 m)
 unfolding new
@@ -87,20 +76,19 @@ offset-in r Back I = omega (arith, I .fits)
 offset-in r (Front f) I = omega (arith, I .fits, I .bytes-within)
 offset-in r Alloc I = omega (arith, I .no-offset)
 
-offset-small : (r : BufferPool) → sound 8 r ≡ true → r .«raw_offset» < 4294967296
-offset-small r e =
-    let S = sound-use 8 r e in
-    omega (arith, S .capacity-limit, offset-in r (r .mode) (S .orderly .in-mode))
+offset-within : (r : BufferPool) → sound 8 r ≡ true → r .«raw_offset» ≤ r .capacity
+offset-within r e = offset-in r (r .mode) (sound-use 8 r e .orderly .in-mode)
 
--- both starts of a move
-abbrev Small : Starts → Type 0
-Small s = (s .before < 4294967296) × (s .after < 4294967296)
+-- both starts of a move are at most n
+abbrev pub Starting : ℕ → Starts → Type 0
+Starting n s = (s .before ≤ n) × (s .after ≤ n)
 
-starts-small : (kind : ℕ) (r q : BufferPool) → sound 8 r ≡ true → sound 8 q ≡ true → Small (startsOf kind r q)
+pub starts-within : (n kind : ℕ) (r q : BufferPool) → sound 8 r ≡ true → sound 8 q ≡ true → r .capacity ≤ n → q .capacity ≤ n
+    → Starting n (startsOf kind r q)
 unfolding startsOf
-starts-small kind r q e f =
-    pick-cases Small (eqb kind 1 && (inPool (r .mode) && inPool (q .mode))) {a = starts (r .«raw_offset») (q .«raw_offset»)} {b = starts 0 0}
-    (λ t. (offset-small r e, offset-small q f)) (λ t. (omega arith, omega arith))
+starts-within n kind r q e f a b =
+    pick-cases (Starting n) (eqb kind 1 && (inPool (r .mode) && inPool (q .mode))) {a = starts (r .«raw_offset») (q .«raw_offset»)} {b = starts 0 0}
+    (λ t. (omega (arith, offset-within r e), omega (arith, offset-within q f))) (λ t. (omega arith, omega arith))
 
 -- ---- Trace bytes, and counts
 
@@ -108,36 +96,22 @@ filling-left : (r : BufferPool) (e : Event) (left : ℕ) → filling r e left �
 unfolding filling
 filling-left r e left = pick-cases (λ (k : ℕ). k ≤ left) (fills r e) (λ t. omega arith) (λ t. omega arith)
 
--- no answer counts more than once
-abbrev Once : Answer → Type 0
-Once a = (refusedOf a ≤ 1) × (takenOf a ≤ 1) × (spilledOf a ≤ 1)
-
-once : (a : Answer) → Once a
-once Done = (omega arith, omega arith, omega arith)
-once (Reserved p changes) = (omega arith, omega arith, omega arith)
-once (Framed p) = (omega arith, omega arith, omega arith)
-once (Taken h) = (omega arith, omega arith, omega arith)
-once (Copied n) = (omega arith, omega arith, omega arith)
-once (Refused number) = (omega arith, omega arith, omega arith)
-
-counted-within : (n : ℕ) (t : Tally) (a : Answer) → Within n t → Within (n + 1) (counted t a)
+counted-within : (n : ℕ) (t : Tally) (v : Values) → Within n t → Within (n + 1) (counted t v)
 unfolding counted
-counted-within n t a w =
-    let o = once a in
-    (omega (arith, w .0), omega (arith, w .1, o .0), omega (arith, w .2, o .1), omega (arith, w .3, o .2))
+counted-within n t v w = (omega (arith, w .0), omega (arith, w .1), omega (arith, w .2), omega (arith, w .3))
 
 -- ---- An event
 
 module _ (bytes : List ℕ) (s : Running) (e : Event) where
   pub step-sound : sound 8 (s .state .pool) ≡ true → sound 8 (step bytes s e .step .state .pool) ≡ true
   unfolding step stepOf
-  step-sound h = call-sound (s .state .pool) _ h (s .destination) e (handleOf (s .state .pool) (e .number))
+  step-sound h = call-sound (s .state .pool) _ (s .destination) e (handleOf (s .state .pool) (e .number)) h
 
-  pub step-small : sound 8 (s .state .pool) ≡ true → Small (step bytes s e .step .shown .frame)
+  pub step-starts : sound 8 (s .state .pool) ≡ true → Starting byteLimit (step bytes s e .step .shown .frame)
   unfolding step stepOf shownOf
-  step-small h =
-      starts-small (e .kind) (s .state .pool) _ h
-      (call-sound (s .state .pool) (filled (s .state .pool) (part bytes (s .state .next) (filling (s .state .pool) e (length bytes - s .state .next))) (s .memory)) h (s .destination) e (handleOf (s .state .pool) (e .number)))
+  step-starts h =
+      let k = step-sound h in
+      starts-within byteLimit (e .kind) (s .state .pool) _ h k (sound-use 8 _ h .capacity-limit) (sound-use 8 _ k .capacity-limit)
 
   pub step-next : s .state .next ≤ length bytes → step bytes s e .step .state .next ≤ length bytes
   unfolding step stepOf

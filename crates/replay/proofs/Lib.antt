@@ -5,6 +5,8 @@ pub mod SlotLaws
 pub mod EventLaws
 pub mod LineLaws
 pub mod Kept
+pub mod ShownSmall
 pub mod WalkLaws
 pub mod ListingLaws
+pub mod ListingLength
 pub mod Cases

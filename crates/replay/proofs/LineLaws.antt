@@ -1,5 +1,5 @@
 -- The lines, from the texts that the code of listing.rt puts one after the other. Assumes nothing.
-use mathlib.Core.Path.{_≡_, refl, sym, ap, _∙_}
+use mathlib.Core.Path.{_≡_, ap, _∙_}
 use mathlib.Core.List.{List, [], _∷_, _++_}
 use Prim.Native.Nat.{ℕ}
 use lib.IntN.{ℤ}
@@ -9,7 +9,7 @@ use Rattle.replay.specs.declared.event.Shown.{Shown}
 use Rattle.replay.specs.Text.{decimal, hex, signed, spaced, newline, Output, wrote}
 use Rattle.replay.specs.Slots.{held}
 use Rattle.replay.specs.Run.{percent}
-use Rattle.replay.specs.Listing.{firstLine, moveOf, lineHead, line, lastLine, refusedNine, refusedTen}
+use Rattle.replay.specs.Listing.{firstLine, moveOf, lineHead, line, lastLine, refusedWith, refusedNine, refusedTen}
 use Rattle.replay.proofs.TextLaws.{after}
 
 module _ (o p q r : Output) (a b c : List ℕ) (x : p ≡ wrote o a) (y : q ≡ wrote p b) (z : r ≡ wrote q c) where
@@ -45,11 +45,15 @@ unfolding lastLine
 last-line o p q r s t u n k g h e f x y z v w end =
     rw (← e, ← f) (after o t u _ _ (five o p q r _ _ _ x y z s t _ _ v w) end)
 
-pub nine-line : (o p : Output) → p ≡ wrote o (114 ∷ 101 ∷ 102 ∷ 117 ∷ 115 ∷ 101 ∷ 100 ∷ 32 ∷ 57 ∷ 10 ∷ []) → p ≡ wrote o refusedNine
-unfolding refusedNine
-nine-line o p x = x
+pub refused-word : (o p q : Output) (number : ℕ) → p ≡ wrote o (114 ∷ 101 ∷ 102 ∷ 117 ∷ 115 ∷ 101 ∷ 100 ∷ [])
+    → q ≡ wrote p (spaced (decimal number)) → q ≡ wrote o (refusedWith number)
+refused-word o p q number x y = after o p q _ _ x y
 
-pub ten-line : (o p q r : Output) (event : ℕ) → p ≡ wrote o (114 ∷ 101 ∷ 102 ∷ 117 ∷ 115 ∷ 101 ∷ 100 ∷ 32 ∷ 49 ∷ 48 ∷ [])
-    → q ≡ wrote p (spaced (decimal event)) → r ≡ wrote q newline → r ≡ wrote o (refusedTen event)
+pub nine-line : (o p q : Output) → p ≡ wrote o (refusedWith 9) → q ≡ wrote p newline → q ≡ wrote o refusedNine
+unfolding refusedNine
+nine-line o p q x y = after o p q _ _ x y
+
+pub ten-line : (o p q r : Output) (event : ℕ) → p ≡ wrote o (refusedWith 10) → q ≡ wrote p (spaced (decimal event)) → r ≡ wrote q newline
+    → r ≡ wrote o (refusedTen event)
 unfolding refusedTen
 ten-line o p q r event x y z = three o p q r _ _ _ x y z

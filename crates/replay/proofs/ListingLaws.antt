@@ -1,15 +1,13 @@
 -- The listing of a file, from the walk over its events; and what `replay` leaves. Assumes nothing.
 use mathlib.Core.Path.{_≡_, refl, sym, ap, _∙_, subst}
-use mathlib.Core.Bool.{Bool, true, false}
+use mathlib.Core.Bool.{true}
 use mathlib.Core.List.{List, [], _∷_, _++_}
-use Prim.Native.Nat.{ℕ, zero, suc, _+_, _-_, _≤_, _<_}
+use Prim.Native.Nat.{ℕ, zero, suc, _+_, _≤_, _<_}
 use native.Mathlib.Nat.{zero-add}
 use native.Mathlib.Omega.{arith}
 use borrow.Author.Tests.{lt-leb, le-leb}
-use lib.Dec.{leb}
-use lib.ListN.{length, take, drop, replicate, length-replicate, length-append, length-drop}
-use lib.Seq.{sets, sets-eq, length-take-le}
-use Rattle.laws.specs.Tests.{pick}
+use lib.ListN.{length, take, drop, replicate, length-drop}
+use lib.Seq.{sets-eq, length-take-le}
 use Rattle.buffer_pool.specs.declared.buffer_pool.BufferPool.{BufferPool}
 use Rattle.buffer_pool.specs.declared.buffer_pool.Called.{Called}
 use Rattle.buffer_pool.specs.Moves.{Memories, memories}
@@ -19,14 +17,13 @@ use Rattle.trace.specs.declared.Header.{Header}
 use Rattle.trace.specs.declared.Answer as trace
 use Rattle.trace.specs.declared.Answer.the-variants.{Trace, BadHeader, BadEvent}
 use Rattle.trace.specs.Trace.{reading, byteOffset}
-use Rattle.trace.specs.Content.{Content, content, headerFor}
+use Rattle.trace.specs.Content.{Content, content}
 use Rattle.trace.proofs.Accepted.{accepted-use, headed-use, header-content}
 use Rattle.replay.specs.declared.event.State.{State}
-use Rattle.replay.specs.declared.Answer.{Answer}
 use Rattle.replay.specs.declared.Answer.the-variants.{Listed, TooShort}
 use Rattle.replay.specs.Text.{Output, output, wrote}
-use Rattle.replay.specs.Run.{Running, running}
-use Rattle.replay.specs.Listing.{firstLine, lines, begunOn, listingOn, zeros, listingOf, refusedNine, refusedTen, listingBy, listing, Replayed, replayed, delivered}
+use Rattle.replay.specs.Run.{running}
+use Rattle.replay.specs.Listing.{firstLine, lines, begunOn, listingOn, zeros, listingOf, refusedNine, refusedTen, listingBy, listing, replayed, delivered}
 use Rattle.replay.proofs.TextLaws.{sets-past, after}
 use Rattle.replay.proofs.Kept.{new-sound}
 
@@ -116,42 +113,33 @@ module _ (file : List ℕ) (a : trace.Answer) (e : a ≡ reading file) where
 
 -- ---- What replay leaves
 
--- the first walk measures, and stores nothing in an output of no bytes
-module _ (text none : List ℕ) (n : ℕ) (e : output n none ≡ wrote (output 0 []) text) where
+-- a text put at an output's start: the place after it is its length, and where it fits the output's other bytes follow it
+module _ (text out new : List ℕ) (n : ℕ) (e : output n new ≡ wrote (output 0 out) text) where
   pub measured : n ≡ length text
   unfolding wrote
   measured = ap (λ (o : Output). o .at) e ∙ zero-add (length text)
 
+  pub fitted : length text ≤ length out → new ≡ text ++ drop n out
+  unfolding wrote
+  fitted h = ap (λ (o : Output). o .bytes) e ∙ sets-eq text out 0 (omega arith) ∙ rw (zero-add (length text), measured) refl
+
+-- the first walk measures, and stores nothing in an output of no bytes
+module _ (text none : List ℕ) (n : ℕ) (e : output n none ≡ wrote (output 0 []) text) where
   nothing-stored : none ≡ []
   unfolding wrote
   nothing-stored = ap (λ (o : Output). o .bytes) e ∙ sets-past text [] 0 (omega arith)
 
   pub too-short : (out : List ℕ) → length (none ++ out) < n → replayed (TooShort n) (none ++ out) ≡ delivered text out
   unfolding delivered
-  too-short out h = rw nothing-stored (rw (← measured, lt-leb n (length out) (rw nothing-stored at h)) refl)
+  too-short out h =
+      rw nothing-stored (rw (← measured text [] none n e, lt-leb n (length out) (rw nothing-stored at h)) refl)
 
   -- the second writes
   pub all-listed : (out new : List ℕ) (k : ℕ) → n ≤ length (none ++ out) → output k new ≡ wrote (output 0 (none ++ out)) text
       → replayed (Listed n) new ≡ delivered text out
-  unfolding delivered wrote
+  unfolding delivered
   all-listed out new k h w =
-      let l : length text ≤ length out = omega (arith, measured, rw nothing-stored at h) in
-      let v : output k new ≡ output (0 + length text) (sets out 0 text) = rw nothing-stored at w in
-      let s : new ≡ text ++ drop (length text) out = ap (λ (o : Output). o .bytes) v ∙ sets-eq text out 0 (omega arith) ∙ rw (zero-add (length text)) refl in
-      rw (le-leb (length text) (length out) l, measured, s) refl
-
--- the length that is answered is within the output
-pub listed-within : (text out new : List ℕ) (n : ℕ) → replayed (Listed n) new ≡ delivered text out → n ≤ length new
-unfolding delivered
-listed-within text out new n e = go (leb (length text) (length out)) e
-  where
-    go : (t : Bool) → replayed (Listed n) new ≡ pick t (replayed (Listed (length text)) (text ++ drop (length text) out)) (replayed (TooShort (length text)) out)
-        → n ≤ length new
-    go true w =
-        let x : new ≡ text ++ drop (length text) out = ap (λ (r : Replayed). r .output) w in
-        let y : Listed n ≡ Listed (length text) = ap (λ (r : Replayed). r .answer) w in
-        let z : n ≡ length text = cc in
-        rw (x, z, length-append text (drop (length text) out)) (omega arith)
-    go false w =
-        let y : Listed n ≡ TooShort (length text) = ap (λ (r : Replayed). r .answer) w in
-        let z : _≡_ {A = ℕ} 0 1 = cc in absurd (omega arith)
+      let m = measured text [] none n e in
+      let v : output k new ≡ wrote (output 0 out) text = rw nothing-stored at w in
+      let l : length text ≤ length out = omega (arith, m, rw nothing-stored at h) in
+      rw (le-leb (length text) (length out) l, m, fitted text out new k v l, measured text out new k v) refl

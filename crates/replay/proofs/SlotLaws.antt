@@ -1,19 +1,20 @@
 -- The slots that the loops of slots.rt have passed, and what they know where they return. Assumes nothing.
-use mathlib.Core.Path.{_≡_, refl, sym, ap, _∙_, subst}
+use mathlib.Core.Path.{_≡_, refl, sym}
 use mathlib.Core.Bool.{Bool, true, false, not, _&&_}
 use mathlib.Core.List.{List}
-use Prim.Native.Nat.{ℕ, zero, suc, _+_, _-_, _*_, _≤_, _<_}
+use mathlib.Core.Logic.{_⊎_, inl, inr}
+use Prim.Native.Nat.{ℕ, zero, suc, _+_, _-_, _≤_, _<_}
 use native.Mathlib.Numerals.{add-one}
 use native.Mathlib.Omega.{arith}
-use borrow.Author.Tests.{eq-eqb, ne-eqb}
+use borrow.Author.Tests.{ne-eqb}
 use lib.Dec.{eqb}
 use lib.ListN.{getD}
 use Rattle.laws.specs.Tests.{pick}
 use Rattle.laws.specs.Live.{liveAt}
-use Rattle.laws.proofs.Tests.{not-true, not-false}
-use Rattle.buffer_pool.specs.declared.slice.Handle.{Handle}
+use Rattle.laws.proofs.Tests.{both-true, not-true, not-false, pick-cases}
 use Rattle.buffer_pool.specs.declared.buffer_pool.BufferPool.{BufferPool}
 use Rattle.buffer_pool.specs.Record.{startAt}
+use Rattle.buffer_pool.specs.Sound.{Held}
 use Rattle.replay.specs.Slots.{bears, slotFrom, slotOf, handleAt, handleOf, heldAt, heldFrom, held}
 
 -- ---- A serial's slot
@@ -45,6 +46,16 @@ pub slot-none : (live : ℕ) (serials : List ℕ) (serial p : ℕ) → 8 < p →
     → (r : BufferPool) → r .live ≡ live → r .serials ≡ serials → 0 ≡ slotOf r serial
 unfolding slotOf slotFrom
 slot-none live serials serial p h k i r u v = let z : 9 - p ≡ 0 = omega arith in sym (rw (u, v, i, z) refl)
+
+-- a serial's slot is live, or none
+pub slot-held : (live : ℕ) (serials : List ℕ) (serial n p : ℕ) → 1 ≤ p → p + n ≤ 9
+    → (slotFrom live serials serial p n ≡ 0) ⊎ Held 8 live (slotFrom live serials serial p n)
+unfolding slotFrom bears
+slot-held live serials serial zero p h k = inl refl
+slot-held live serials serial (suc n) p h k =
+    pick-cases (λ (q : ℕ). (q ≡ 0) ⊎ Held 8 live q) (liveAt 8 live p && eqb (startAt serials p) serial)
+    (λ t. inr (record { one = h; most = omega arith; here = both-true (liveAt 8 live p) _ t .0 }))
+    (λ t. slot-held live serials serial n (suc p) (omega arith) (omega arith))
 
 module _ (r : BufferPool) (serial p : ℕ) (e : p ≡ slotOf r serial) where
   pub handle-none : p ≡ 0 → record { slot = 0; start = 0; length = 0; serial = serial } ≡ handleOf r serial

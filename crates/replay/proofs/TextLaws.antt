@@ -1,11 +1,11 @@
 -- A text put after another is their concatenation; and what each writer of text.rt knows where it returns. Assumes nothing.
-use mathlib.Core.Path.{_≡_, refl, sym, ap, _∙_, subst}
+use mathlib.Core.Path.{_≡_, refl, sym, ap, _∙_}
 use mathlib.Core.List.{List, [], _∷_, _++_}
 use Prim.Native.Nat.{ℕ, zero, suc, _+_, _-_, _/_, _%_, _≤_, _<_}
 use native.Mathlib.Nat.{add-zero}
 use native.Mathlib.Numerals.{add-one}
 use native.Mathlib.Omega.{arith}
-use lib.ListN.{length, take, drop, getD, set, length-append}
+use lib.ListN.{length, take, getD, set, length-append}
 use lib.Seq.{sets, take-suc, take-length}
 use Rattle.io.specs.Digits.{glyph}
 use Rattle.replay.specs.Text.{Output, output, wrote, spaced, hex, decimal}

@@ -1,32 +1,32 @@
 -- The walk over the events: what is written and what is left to write are together the whole listing. Assumes nothing.
 use mathlib.Core.Path.{_≡_, refl, sym, ap, _∙_, subst}
-use mathlib.Core.Bool.{Bool, true}
-use mathlib.Core.List.{List, [], _∷_, _++_}
-use Prim.Native.Nat.{ℕ, zero, suc, _+_, _-_, _≤_, _<_}
+use mathlib.Core.Bool.{true}
+use mathlib.Core.List.{List, _++_}
+use Prim.Native.Nat.{ℕ, _+_, _-_, _≤_, _<_}
 use native.Mathlib.Numerals.{add-one}
 use native.Mathlib.Omega.{arith}
 use lib.ListN.{length, getD, drop, drop-of-length-le}
 use lib.Seq.{drop-cons}
-use Rattle.buffer_pool.specs.Moves.{Memories, memories}
+use Rattle.buffer_pool.specs.Moves.{Memories}
 use Rattle.buffer_pool.specs.Soundness.{sound}
 use Rattle.trace.specs.declared.Event.{Event}
 use Rattle.trace.specs.Content.{noEvent}
 use Rattle.replay.specs.declared.event.State.{State}
 use Rattle.replay.specs.declared.event.Step.{Step}
-use Rattle.replay.specs.Text.{Output, output, wrote}
+use Rattle.replay.specs.Text.{Output, wrote}
 use Rattle.replay.specs.Run.{Within, Running, running, Stepped, stepped, left, step}
 use Rattle.replay.specs.Listing.{line, lastLine, lines}
 use Rattle.replay.proofs.TextLaws.{wrote-more}
-use Rattle.replay.proofs.Kept.{step-sound, step-small, step-next, step-within}
+use Rattle.replay.proofs.Kept.{step-sound, step-starts, step-next, step-within}
 
 -- ---- One event
 
 module _ (bytes : List ℕ) (s : State) (m o : Memories) (d f : List ℕ) (e : Event) (t : Step) (q : stepped t o f ≡ step bytes (running s m d) e) where
   pub small-before : sound 8 (s .pool) ≡ true → t .shown .frame .before < 4294967296
-  small-before h = subst (λ (x : Stepped). x .step .shown .frame .before < 4294967296) (sym q) (step-small bytes (running s m d) e h .0)
+  small-before h = subst (λ (x : Stepped). x .step .shown .frame .before < 4294967296) (sym q) (omega (arith, step-starts bytes (running s m d) e h .0))
 
   pub small-after : sound 8 (s .pool) ≡ true → t .shown .frame .after < 4294967296
-  small-after h = subst (λ (x : Stepped). x .step .shown .frame .after < 4294967296) (sym q) (step-small bytes (running s m d) e h .1)
+  small-after h = subst (λ (x : Stepped). x .step .shown .frame .after < 4294967296) (sym q) (omega (arith, step-starts bytes (running s m d) e h .1))
 
   pub event-left : running (t .state) o f ≡ left (step bytes (running s m d) e)
   event-left = ap left q

@@ -1,12 +1,12 @@
--- Document 01's example: its listing, byte for byte. proofs/Cases.antt has the theorem.
-use mathlib.Core.List.{List, [], _∷_, _++_}
+-- The listing of SPECIFICATION 12, byte for byte. proofs/Cases.antt has the theorem.
+use mathlib.Core.List.{List, [], _∷_}
 use Prim.Native.Nat.{ℕ}
 use Rattle.buffer_pool.specs.Computing as pool
 use Rattle.trace.specs.Cases as trace
 use Rattle.trace.specs.Content.{content, eventsFrom}
 use Rattle.replay.specs.Text.{places, decimal, hex, signed, spaced}
 use Rattle.replay.specs.Slots.{bears, slotFrom, slotOf, handleAt, handleOf, heldAt, heldFrom, held}
-use Rattle.replay.specs.Run.{counted, percent, kindLetter, startsOf, shownOf, fills, filling, filled, callOf, stepOf, step}
+use Rattle.replay.specs.Run.{counted, percent, kindLetter, takeExtent, releaseExtent, extentOf, startsOf, shownOf, fills, filling, filled, callOf, stepOf, step}
 use Rattle.replay.specs.Listing.{firstLine, moveOf, lineHead, line, lastLine, lines, begunOn, listingOn, listingOf, refusedNine, refusedTen, listingBy, listing}
 
 unfoldable pub printed : List ℕ
@@ -43,5 +43,5 @@ printed =
 
 -- opens what a listing unfolds to, for computing
 unfoldable pub definitions : Unit {0}
-unfolding pool.definitions trace.definitions content eventsFrom places decimal hex signed spaced bears slotFrom slotOf handleAt handleOf heldAt heldFrom held counted percent kindLetter startsOf shownOf fills filling filled callOf stepOf step firstLine moveOf lineHead line lastLine lines begunOn listingOn listingOf refusedNine refusedTen listingBy listing
+unfolding pool.definitions trace.definitions content eventsFrom places decimal hex signed spaced bears slotFrom slotOf handleAt handleOf heldAt heldFrom held counted percent kindLetter takeExtent releaseExtent extentOf startsOf shownOf fills filling filled callOf stepOf step firstLine moveOf lineHead line lastLine lines begunOn listingOn listingOf refusedNine refusedTen listingBy listing
 definitions = tt

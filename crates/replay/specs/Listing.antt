@@ -1,6 +1,6 @@
--- The listing of a trace file (document 01, "The trace and poolreplay"): the bytes that `replay` writes.
+-- The listing of a trace file, SPECIFICATION 10: the bytes that `replay` writes.
 use mathlib.Core.List.{List, [], _∷_, _++_}
-use Prim.Native.Nat.{ℕ, zero, suc, _+_}
+use Prim.Native.Nat.{ℕ, suc, _+_, _-_, _*_, _/_}
 use lib.Dec.{leb}
 use lib.ListN.{length, drop, replicate}
 use lib.IntN.{ℤ, pos, _-ℤ_}
@@ -10,45 +10,43 @@ use Rattle.buffer_pool.specs.Record.{slotCount}
 use Rattle.buffer_pool.specs.Moves.{Memories, memories}
 use Rattle.buffer_pool.specs.Calls.{Outcome, new}
 use Rattle.trace.specs.declared.Event.{Event}
-use Rattle.trace.specs.declared.Header.{Header}
 use Rattle.trace.specs.declared.Answer as trace
 use Rattle.trace.specs.declared.Answer.the-variants.{Trace, BadHeader, BadEvent}
-use Rattle.trace.specs.Trace.{sizeLimit, reading}
+use Rattle.trace.specs.Trace.{sizeLimit, fileLimit, headerLength, eventLength, reading}
 use Rattle.trace.specs.Content.{Content, content}
 use Rattle.replay.specs.declared.event.Tally.{Tally}
-use Rattle.replay.specs.declared.event.State.{State}
 use Rattle.replay.specs.declared.event.Starts.{Starts}
 use Rattle.replay.specs.declared.event.Shown.{Shown}
 use Rattle.replay.specs.declared.Answer.{Answer}
 use Rattle.replay.specs.declared.Answer.the-variants.{Listed, TooShort}
 use Rattle.replay.specs.Text.{decimal, hex, signed, spaced, newline}
 use Rattle.replay.specs.Slots.{held}
-use Rattle.replay.specs.Run.{percent, Running, running, Stepped, left, step}
+use Rattle.replay.specs.Run.{percent, Running, running, left, step}
 
 -- ---- The lines
 
--- pool CAP overflow OVF
+-- 10.3: pool CAPACITY overflow LENGTH
 unfoldable pub firstLine : ℕ → ℕ → List ℕ
 firstLine capacity overflow =
     (112 ∷ 111 ∷ 111 ∷ 108 ∷ []) ++ spaced (decimal capacity) ++ (32 ∷ 111 ∷ 118 ∷ 101 ∷ 114 ∷ 102 ∷ 108 ∷ 111 ∷ 119 ∷ [])
     ++ spaced (decimal overflow) ++ newline
 
--- "The move is frame start after minus before, signed"
+-- 10.5, the move: "the frame's start after the event minus its start before"
 unfoldable pub moveOf : Starts → ℤ
 moveOf s = pos (s .after) -ℤ pos (s .before)
 
--- event, kind letter, refusal or 0, mode, live bits
+-- 10.3, fields 1 to 5: event, kind letter, refusal or 0, mode, live word
 unfoldable pub lineHead : ℕ → Shown → List ℕ
 lineHead event s =
     decimal event ++ spaced (s .kind ∷ []) ++ spaced (decimal (s .refusal)) ++ spaced (s .mode ∷ []) ++ spaced (hex (s .live))
 
--- and start, length, move
+-- and fields 6 to 8: start, length, move
 unfoldable pub line : ℕ → Shown → List ℕ
 line event s =
     lineHead event s ++ spaced (decimal (s .place .start)) ++ spaced (decimal (s .place .length)) ++ spaced (signed (moveOf (s .frame)))
     ++ newline
 
--- T, events done, events refused, percent, held bytes
+-- 10.6: T, events done, events refused, the share of the overflow in percent, held bytes
 unfoldable pub lastLine : Tally → BufferPool → List ℕ
 lastLine t r =
     (84 ∷ []) ++ spaced (decimal (t .done)) ++ spaced (decimal (t .refused)) ++ spaced (decimal (percent t)) ++ spaced (decimal (held r))
@@ -78,16 +76,19 @@ listingOn m destination c =
 unfoldable pub zeros : List ℕ
 zeros = replicate sizeLimit 0
 
--- on memories of zeros, as long as the file says; "The take's destination is as long as the overflow"
+-- on memories of zeros, as long as the file says (9.6); "a destination as long as the overflow" (9.8)
 unfoldable pub listingOf : Content → List ℕ
 listingOf c = listingOn (memories (replicate (c .capacity) 0) (replicate (c .overflow) 0)) (replicate (c .overflow) 0) c
 
--- "A refused file prints only `refused 9`, or `refused 10` and the event counted from 1."
+-- 10.2: "`refused 9`; or `refused 10` and, after a space, the number of the event"
+abbrev pub refusedWith : ℕ → List ℕ
+refusedWith number = (114 ∷ 101 ∷ 102 ∷ 117 ∷ 115 ∷ 101 ∷ 100 ∷ []) ++ spaced (decimal number)
+
 unfoldable pub refusedNine : List ℕ
-refusedNine = (114 ∷ 101 ∷ 102 ∷ 117 ∷ 115 ∷ 101 ∷ 100 ∷ 32 ∷ 57 ∷ 10 ∷ [])
+refusedNine = refusedWith 9 ++ newline
 
 unfoldable pub refusedTen : ℕ → List ℕ
-refusedTen event = (114 ∷ 101 ∷ 102 ∷ 117 ∷ 115 ∷ 101 ∷ 100 ∷ 32 ∷ 49 ∷ 48 ∷ []) ++ spaced (decimal event) ++ newline
+refusedTen event = refusedWith 10 ++ spaced (decimal event) ++ newline
 
 -- the listing, by what reading the file gives
 unfoldable pub listingBy : trace.Answer → Content → List ℕ
@@ -98,6 +99,30 @@ listingBy (BadEvent event) c = refusedTen event
 -- the listing of a file
 unfoldable pub listing : List ℕ → List ℕ
 listing file = listingBy (reading file) (content file)
+
+-- ---- A limit of a listing's length, by the widths of its fields: each but the first follows a space, and a line ends in a newline.
+-- proofs/ListingLength.antt has that no listing is longer.
+
+-- the most events of a file, which by 9.3 has at most 65,536 bytes, 24 of them the header's and 8 an event's
+abbrev pub eventLimit : ℕ
+eventLimit = (fileLimit - headerLength) / eventLength
+
+-- line one: two words, and two sizes of 5 digits
+abbrev pub firstLimit : ℕ
+firstLimit = 4 + (1 + 5) + 9 + (1 + 5) + 1
+
+-- an event's line: 4 digits of the event, its letter, a digit of the refusal, the mode, 2 digits of the live bits, start and length
+-- of 5 digits, a sign and 5 digits of the move
+abbrev pub lineLimit : ℕ
+lineLimit = 4 + (1 + 1) + (1 + 1) + (1 + 1) + (1 + 2) + (1 + 5) + (1 + 5) + (1 + 6) + 1
+
+-- line T: two counts of 4 digits, 3 digits of the percent, 5 of the held bytes
+abbrev pub lastLimit : ℕ
+lastLimit = 1 + (1 + 4) + (1 + 4) + (1 + 3) + (1 + 5) + 1
+
+-- line one, a line for each event, and line T
+abbrev pub listingLimit : ℕ
+listingLimit = firstLimit + eventLimit * lineLimit + lastLimit
 
 -- ---- What replay leaves
 

@@ -1,9 +1,8 @@
 -- The run of a trace: what each event does to the pool, its memories and the counts, and what its line shows. The calls are the
 -- definitions of the crate buffer_pool.
-use mathlib.Core.Path.{_≡_}
 use mathlib.Core.Bool.{Bool, true, false, _&&_}
-use mathlib.Core.List.{List, []}
-use Prim.Native.Nat.{ℕ, zero, suc, _+_, _-_, _*_, _/_, _≤_, min}
+use mathlib.Core.List.{List}
+use Prim.Native.Nat.{ℕ, _+_, _-_, _*_, _/_, _≤_, min}
 use lib.Dec.{leb, eqb}
 use lib.ListN.{length}
 use lib.Seq.{sets}
@@ -15,12 +14,11 @@ use Rattle.buffer_pool.specs.declared.buffer_pool.PoolMode.{PoolMode}
 use Rattle.buffer_pool.specs.declared.buffer_pool.PoolMode.the-variants.{Back, Front, Alloc}
 use Rattle.buffer_pool.specs.declared.buffer_pool.Memory.{Memory}
 use Rattle.buffer_pool.specs.declared.buffer_pool.Memory.the-variants.{Pool, Overflow}
-use Rattle.buffer_pool.specs.declared.buffer_pool.Answer.{Answer}
-use Rattle.buffer_pool.specs.declared.buffer_pool.Answer.the-variants.{Done, Reserved, Framed, Taken, Copied, Refused}
 use Rattle.buffer_pool.specs.declared.buffer_pool.Called.{Called}
 use Rattle.buffer_pool.specs.Record.{slotCount}
+use Rattle.buffer_pool.specs.Values.{Values, values}
 use Rattle.buffer_pool.specs.Moves.{Memories, memories}
-use Rattle.buffer_pool.specs.Steps.{refusal, reservation}
+use Rattle.buffer_pool.specs.Steps.{reservation}
 use Rattle.buffer_pool.specs.Calls as calls
 use Rattle.buffer_pool.specs.Calls.{Outcome, outcome}
 use Rattle.trace.specs.declared.Event.{Event}
@@ -35,54 +33,42 @@ use Rattle.replay.specs.Slots.{handleOf}
 
 -- ---- The counts of line T
 
--- 1 for a refused call, for a non-empty take, for a non-empty take from the overflow, and 0 for every other answer
-abbrev pub refusedOf : Answer → ℕ
-refusedOf Done = 0
-refusedOf (Reserved p changes) = 0
-refusedOf (Framed p) = 0
-refusedOf (Taken h) = 0
-refusedOf (Copied n) = 0
-refusedOf (Refused number) = 1
+-- 1 for a refused call
+abbrev pub refusedOf : Values → ℕ
+refusedOf v = min (v .number) 1
 
-abbrev pub takenOf : Answer → ℕ
-takenOf Done = 0
-takenOf (Reserved p changes) = 0
-takenOf (Framed p) = 0
-takenOf (Taken h) = 1
-takenOf (Copied n) = min n 1
-takenOf (Refused number) = 0
+-- 1 for a non-empty take: its handle has a slot, or bytes were copied
+abbrev pub takenOf : Values → ℕ
+takenOf v = min (v .handle .slot + v .length) 1
 
-abbrev pub spilledOf : Answer → ℕ
-spilledOf Done = 0
-spilledOf (Reserved p changes) = 0
-spilledOf (Framed p) = 0
-spilledOf (Taken h) = 0
-spilledOf (Copied n) = min n 1
-spilledOf (Refused number) = 0
+-- 1 for a non-empty take from the overflow
+abbrev pub spilledOf : Values → ℕ
+spilledOf v = min (v .length) 1
 
--- the counts after a call with this answer
-unfoldable pub counted : Tally → Answer → Tally
-counted t answer =
+-- the counts after a call that says so
+unfoldable pub counted : Tally → Values → Tally
+counted t v =
     record {
-      done = t .done + (1 - refusedOf answer);
-      refused = t .refused + refusedOf answer;
-      takes = t .takes + takenOf answer;
-      spilled = t .spilled + spilledOf answer;
+      done = t .done + (1 - refusedOf v);
+      refused = t .refused + refusedOf v;
+      takes = t .takes + takenOf v;
+      spilled = t .spilled + spilledOf v;
     }
 
--- "non-empty takes from the overflow as whole percent of non-empty takes, rounded down (0 without takes)"
+-- 10.6: "the count of takes that copied at least one byte times 100, divided by the count of all takes that were not
+-- refused and whose frame was not empty, rounded down; 0 if there were none"
 unfoldable pub percent : Tally → ℕ
 percent t = pick (eqb (t .takes) 0) 0 (t .spilled * 100 / t .takes)
 
 -- ---- What a line shows
 
--- the letter of a kind: r, c, t, k, d
+-- the letter of a kind (9.4): r, c, t, k, d
 unfoldable pub kindLetter : ℕ → ℕ
 kindLetter kind =
     pick (eqb kind reserveKind) 114
     (pick (eqb kind commitKind) 99 (pick (eqb kind takeKind) 116 (pick (eqb kind truncateKind) 107 100)))
 
--- the letter of a mode: B, F, A
+-- the letter of a mode (SPECIFICATION 1.10): B, F, A
 abbrev pub modeLetter : PoolMode → ℕ
 modeLetter Back = 66
 modeLetter (Front f) = 70
@@ -91,15 +77,20 @@ modeLetter Alloc = 65
 abbrev pub extent : ℕ → ℕ → Extent
 extent start length = record { start = start; length = length }
 
--- "Start and length are the reservation's (r), the frame's (c, k) or the slice's (t, d; start 0 from the overflow or when empty)";
--- h is the handle of a release. "A refused event has 0 0 0."
-abbrev pub extentOf : Handle → Answer → Extent
-extentOf h Done = extent (h .start) (h .length)
-extentOf h (Reserved p changes) = extent (p .start) (p .length)
-extentOf h (Framed p) = extent (p .start) (p .length)
-extentOf h (Taken g) = extent (g .start) (g .length)
-extentOf h (Copied n) = extent 0 n
-extentOf h (Refused number) = extent 0 0
+-- of a take the slice's, or with slot 0 the copied length
+unfoldable pub takeExtent : Values → Extent
+takeExtent v = pick (eqb (v .handle .slot) 0) (extent 0 (v .length)) (extent (v .handle .start) (v .handle .length))
+
+-- of a release the slice's that its handle h names
+unfoldable pub releaseExtent : Handle → Values → Extent
+releaseExtent h v = pick (eqb (v .number) 0) (extent (h .start) (h .length)) (extent 0 0)
+
+-- start and length by the table of SPECIFICATION 10.4: of the reservation (r), the frame (c, k), the slice (t, d); "From the overflow
+-- the start is 0"; 0 and 0 for a refused event. h is the handle of a release.
+unfoldable pub extentOf : ℕ → Handle → Values → Extent
+extentOf kind h v =
+    pick (eqb kind takeKind) (takeExtent v)
+    (pick (eqb kind releaseKind) (releaseExtent h v) (extent (v .place .start) (v .place .length)))
 
 -- is the frame in the pool (B or F)?
 abbrev pub inPool : PoolMode → Bool
@@ -110,7 +101,8 @@ inPool Alloc = false
 abbrev pub starts : ℕ → ℕ → Starts
 starts before after = record { before = before; after = after }
 
--- the two frame starts of which the move is the difference: "when the mode is B or F both times, on r lines; else 0"
+-- the two frame starts of which the move is the difference (10.5): on an r line "whose mode is B or F both before and after the
+-- event"; else 0 and 0
 unfoldable pub startsOf : ℕ → BufferPool → BufferPool → Starts
 startsOf kind r q =
     pick (eqb kind reserveKind && (inPool (r .mode) && inPool (q .mode))) (starts (r .«raw_offset») (q .«raw_offset»)) (starts 0 0)
@@ -120,10 +112,10 @@ unfoldable pub shownOf : ℕ → BufferPool → Handle → Called → Shown
 shownOf kind r h c =
     record {
       kind = kindLetter kind;
-      refusal = refusal (c .answer);
+      refusal = values (c .answer) .number;
       mode = modeLetter (c .pool .mode);
       live = c .pool .live;
-      place = extentOf h (c .answer);
+      place = extentOf kind h (values (c .answer));
       frame = startsOf kind r (c .pool);
     }
 
@@ -133,7 +125,7 @@ shownOf kind r h c =
 unfoldable pub fills : BufferPool → Event → Bool
 fills r e = eqb (e .kind) commitKind && leb (e .number) (r .reserved)
 
--- so many trace bytes it copies, of those left: "as many of the next trace bytes as are left, at most its length"
+-- so many trace bytes it copies, of those left (9.7): "as many of the next bytes as are left, at most its number"
 unfoldable pub filling : BufferPool → Event → ℕ → ℕ
 filling r e left = pick (fills r e) (min (e .number) left) 0
 
@@ -184,7 +176,7 @@ left s = running (s .step .state) (s .memory) (s .destination)
 unfoldable pub stepOf : State → Event → Handle → ℕ → Called → Step
 stepOf s e h next c =
     record {
-      state = record { pool = c .pool; next = next; tally = counted (s .tally) (c .answer) };
+      state = record { pool = c .pool; next = next; tally = counted (s .tally) (values (c .answer)) };
       shown = shownOf (e .kind) (s .pool) h c;
     }
 
@@ -200,6 +192,6 @@ step bytes s e =
 
 -- ---- What the code keeps while it runs
 
--- no count is above n
+-- no count is above n, and no more takes are from the overflow than there are
 abbrev pub Within : ℕ → Tally → Type 0
-Within n t = (t .done ≤ n) × (t .refused ≤ n) × (t .takes ≤ n) × (t .spilled ≤ n)
+Within n t = (t .done ≤ n) × (t .refused ≤ n) × (t .takes ≤ n) × (t .spilled ≤ t .takes)

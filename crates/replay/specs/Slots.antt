@@ -1,5 +1,5 @@
 -- What the run reads off the slots of the pool's record: the slice that a serial names, and the bytes held.
-use mathlib.Core.Bool.{Bool, true, false, _&&_}
+use mathlib.Core.Bool.{Bool, _&&_}
 use mathlib.Core.List.{List}
 use Prim.Native.Nat.{ℕ, zero, suc, _+_}
 use lib.Dec.{eqb}
@@ -29,7 +29,8 @@ handleAt r serial p =
     pick (eqb p 0) (record { slot = 0; start = 0; length = 0; serial = serial })
     (record { slot = p; start = startAt (r .starts) p; length = startAt (r .lengths) p; serial = serial })
 
--- the handle of the live slice with this serial; where no live one has it, a handle of no slot, which a release refuses with 7
+-- 9.8: the handle of the live slice with this serial; where no live one has it, a handle of no slot, which a release refuses with
+-- 7
 unfoldable pub handleOf : BufferPool → ℕ → Handle
 handleOf r serial = handleAt r serial (slotOf r serial)
 
@@ -44,6 +45,6 @@ unfoldable pub heldFrom : ℕ → List ℕ → ℕ → ℕ → ℕ
 heldFrom live lengths p zero = 0
 heldFrom live lengths p (suc n) = heldAt live lengths p + heldFrom live lengths (suc p) n
 
--- "held bytes, the sum of live pooled lengths"
+-- 10.6: "Held bytes are the sum of the lengths of the live slices"
 unfoldable pub held : BufferPool → ℕ
 held r = heldFrom (r .live) (r .lengths) 1 slotCount

@@ -4,12 +4,9 @@ ghost use mathlib.Core.Bool.{true};
 ghost use Prim.Native.Nat.{_+_, _-_, _≤_, _<_, _^_, min};
 ghost use lib.ListN.{length};
 ghost use lib.Seq.{sets};
-ghost use Rattle.laws.specs.Lists.{part};
 ghost use Rattle.buffer_pool.specs.Moves.{memories};
-ghost use Rattle.buffer_pool.specs.Soundness.{sound};
-ghost use Rattle.buffer_pool.specs.Steps as steps;
+ghost use Rattle.buffer_pool.specs.Values.{values};
 ghost use Rattle.buffer_pool.specs.Calls as calls;
-ghost use Rattle.replay.specs.Slots.{handleOf};
 ghost use Rattle.replay.specs.Run as spec;
 use crate::slots::handle_of;
 use crate::text::put_some;
@@ -65,34 +62,6 @@ pub struct Step {
 
 // ---- Counting
 
-// The refusal's number, and 0 for every other answer.
-fn refusal(answer: Answer) -> u8
-    ensures { λ r. ⌜ r ≡ steps.refusal answer ⌝ }
-{
-    match answer {
-        Answer::Done => 0,
-        Answer::Reserved(_, _) => 0,
-        Answer::Framed(_) => 0,
-        Answer::Taken(_) => 0,
-        Answer::Copied(_) => 0,
-        Answer::Refused(number) => number,
-    }
-}
-
-// 1 for a refused call.
-fn refused(answer: Answer) -> u64
-    ensures { λ r. ⌜ (r ≡ spec.refusedOf answer) × (r ≤ 1) ⌝ }
-{
-    match answer {
-        Answer::Done => 0,
-        Answer::Reserved(_, _) => 0,
-        Answer::Framed(_) => 0,
-        Answer::Taken(_) => 0,
-        Answer::Copied(_) => 0,
-        Answer::Refused(_) => 1,
-    }
-}
-
 // 1 for a number that is not 0.
 fn some(n: u64) -> u64
     ensures { λ r. ⌜ (r ≡ min n 1) × (r ≤ 1) ⌝ }
@@ -100,45 +69,28 @@ fn some(n: u64) -> u64
     if n == 0 { 0 } else { 1 }
 }
 
-// 1 for a take of a frame that was not empty.
-fn taken(answer: Answer) -> u64
-    ensures { λ r. ⌜ (r ≡ spec.takenOf answer) × (r ≤ 1) ⌝ }
+// A slot and a count of copied bytes, of which one is 0, as one number.
+fn either(slot: u8, copied: u64) -> u64
+    ensures { λ r. ⌜ min r 1 ≡ min (slot + copied) 1 ⌝ }
 {
-    match answer {
-        Answer::Done => 0,
-        Answer::Reserved(_, _) => 0,
-        Answer::Framed(_) => 0,
-        Answer::Taken(_) => 1,
-        Answer::Copied(n) => some(n),
-        Answer::Refused(_) => 0,
-    }
-}
-
-// 1 for a take of a frame of the overflow that was not empty.
-fn spilled(answer: Answer) -> u64
-    ensures { λ r. ⌜ (r ≡ spec.spilledOf answer) × (r ≤ 1) ⌝ }
-{
-    match answer {
-        Answer::Done => 0,
-        Answer::Reserved(_, _) => 0,
-        Answer::Framed(_) => 0,
-        Answer::Taken(_) => 0,
-        Answer::Copied(n) => some(n),
-        Answer::Refused(_) => 0,
-    }
+    if copied == 0 { slot as u64 } else { copied }
 }
 
 // The counts after a call with this answer.
 fn counted(t: Tally, answer: Answer) -> Tally
     requires { ⌜ spec.Within (2 ^ 63) t ⌝ }
-    ensures { λ r. ⌜ r ≡ spec.counted t answer ⌝ }
+    ensures { λ r. ⌜ r ≡ spec.counted t (values answer) ⌝ }
 {
-    let no = refused(answer);
+    let handle = answer.handle();
+    let copied = answer.copied();
+    let no = some(answer.refusal() as u64);
+    let take = some(either(handle.slot, copied));
+    let spill = some(copied);
     Tally {
         done: t.done + (1 - no),
         refused: t.refused + no,
-        takes: t.takes + taken(answer),
-        spilled: t.spilled + spilled(answer),
+        takes: t.takes + take,
+        spilled: t.spilled + spill,
     }
 }
 
@@ -186,35 +138,53 @@ fn mode_letter(mode: PoolMode) -> u8
     }
 }
 
-// The start and length to show: of the answer, or of the handle where a release is done.
-fn extent_of(h: Handle, answer: Answer) -> Extent
-    ensures { λ r. ⌜ r ≡ spec.extentOf h answer ⌝ }
+// The start and length that a take shows: its slice's, or with slot 0 the copied length.
+fn take_extent(answer: Answer) -> Extent
+    ensures { λ r. ⌜ r ≡ spec.takeExtent (values answer) ⌝ }
 {
-    match answer {
-        Answer::Done => Extent {
-            start: h.start as u64,
-            length: h.length as u64,
-        },
-        Answer::Reserved(p, _) => Extent {
-            start: p.start,
-            length: p.length,
-        },
-        Answer::Framed(p) => Extent {
-            start: p.start,
-            length: p.length,
-        },
-        Answer::Taken(g) => Extent {
-            start: g.start as u64,
-            length: g.length as u64,
-        },
-        Answer::Copied(n) => Extent {
+    let g = answer.handle();
+    if g.slot == 0 {
+        return Extent {
             start: 0,
-            length: n,
-        },
-        Answer::Refused(_) => Extent {
+            length: answer.copied(),
+        };
+    }
+    Extent {
+        start: g.start as u64,
+        length: g.length as u64,
+    }
+}
+
+// The start and length that a release shows: its handle's.
+fn release_extent(h: Handle, answer: Answer) -> Extent
+    ensures { λ r. ⌜ r ≡ spec.releaseExtent h (values answer) ⌝ }
+{
+    if answer.refusal() != 0 {
+        return Extent {
             start: 0,
             length: 0,
-        },
+        };
+    }
+    Extent {
+        start: h.start as u64,
+        length: h.length as u64,
+    }
+}
+
+// The start and length to show; a release has the handle.
+fn extent_of(kind: u8, h: Handle, answer: Answer) -> Extent
+    ensures { λ r. ⌜ r ≡ spec.extentOf kind h (values answer) ⌝ }
+{
+    if kind == trace::TAKE {
+        return take_extent(answer);
+    }
+    if kind == trace::RELEASE {
+        return release_extent(h, answer);
+    }
+    let place = answer.place();
+    Extent {
+        start: place.start,
+        length: place.length,
     }
 }
 
@@ -268,10 +238,10 @@ fn shown_of(kind: u8, r: BufferPool, h: Handle, c: Called) -> Shown
     let mode = q.mode;
     Shown {
         kind: kind_letter(kind),
-        refusal: refusal(answer),
+        refusal: answer.refusal(),
         mode: mode_letter(mode),
         live: q.live,
-        place: extent_of(h, answer),
+        place: extent_of(kind, h, answer),
         frame: starts_of(kind, r, q),
     }
 }

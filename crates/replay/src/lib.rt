@@ -1,5 +1,5 @@
-// The run of a trace and its listing (document 01, "The trace and poolreplay"). Every function here is proved to meet its
-// contract. `replay` is what a program calls; it has no `requires`.
+// The run of a trace and its listing (SPECIFICATION 9 and 10). Every function here is proved to meet its contract. `replay` and
+// `replay_whole` are what a program calls; neither has a `requires`.
 mod event;
 mod listing;
 mod slots;
@@ -7,11 +7,17 @@ mod text;
 mod walk;
 
 ghost use mathlib.Core.Path.{_≡_};
+ghost use mathlib.Core.List.{_++_};
+ghost use lib.ListN.{length, drop};
+ghost use Rattle.io.specs.Counts.{Counts};
 ghost use Rattle.replay.specs.Text.{output, wrote};
 ghost use Rattle.replay.specs.Listing as spec;
 use crate::listing::put_nine;
 use crate::listing::put_ten;
 use crate::walk::put_trace;
+
+// No listing is longer: line one, the lines of 8,189 events, and line T.
+pub const LISTING_LIMIT: usize = 26 + 8_189 * 33 + 22;
 
 // What `replay` answers: the listing was written and is so long, or the output is too short and must be so long.
 pub enum Answer {
@@ -42,4 +48,14 @@ pub fn replay(file: &[u8], out: &mut [u8]) -> Answer
     }
     put_listing(out, file);
     Answer::Listed(n)
+}
+
+// Runs the trace in `file` as `replay` does, and writes its listing to the start of `out`, which every listing fits; the other bytes
+// of `out` stay. Answers the listing's length.
+pub fn replay_whole(file: &[u8], out: &mut [u8; LISTING_LIMIT]) -> usize
+    ensures { λ n. ⌜ n ≡ length (spec.listing (now (file .entry))) ⌝ }
+    ensures { λ n. ⌜ now (out .exit) ≡ spec.listing (now (file .entry)) ++ drop n (now (out .entry)) ⌝ }
+    ensures { λ n. ⌜ Counts n (now (out .exit)) ⌝ }
+{
+    put_listing(out, file)
 }

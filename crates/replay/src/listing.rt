@@ -1,9 +1,7 @@
 // The lines of a listing, and the walk over a trace that writes them.
 ghost use mathlib.Core.Path.{_≡_};
-ghost use mathlib.Core.Bool.{true};
 ghost use Prim.Native.Nat.{_+_, _≤_, _<_, _^_};
 ghost use lib.IntN.{natAbs};
-ghost use lib.ListN.{length};
 ghost use Rattle.replay.specs.Text.{output, wrote, spaced, signed};
 ghost use Rattle.replay.specs.Run.{Within};
 ghost use Rattle.replay.specs.Listing as spec;
@@ -114,16 +112,27 @@ pub(crate) fn put_last(out: &mut [u8], at: usize, t: Tally, r: BufferPool) -> us
 
 // ---- A refused file
 
+// The word and the number of the refusal.
+fn put_refused(out: &mut [u8], number: u8) -> usize
+    ensures { λ r. ⌜ (output r (now (out .exit)) ≡ wrote (output 0 (now (out .entry))) (spec.refusedWith number)) × (r ≤ 28) ⌝ }
+{
+    let a = put_some(out, 0, b"refused");
+    put_number(out, a, number as u64)
+}
+
+// Its header is wrong.
 pub(crate) fn put_nine(out: &mut [u8]) -> usize
     ensures { λ r. ⌜ output r (now (out .exit)) ≡ wrote (output 0 (now (out .entry))) spec.refusedNine ⌝ }
 {
-    put_some(out, 0, b"refused 9\n")
+    let a = put_refused(out, trace::WRONG_HEADER);
+    put(out, a, b'\n')
 }
 
+// This event, counted from 1, is bad.
 pub(crate) fn put_ten(out: &mut [u8], event: u32) -> usize
     ensures { λ r. ⌜ output r (now (out .exit)) ≡ wrote (output 0 (now (out .entry))) (spec.refusedTen event) ⌝ }
 {
-    let a = put_some(out, 0, b"refused 10");
+    let a = put_refused(out, trace::BAD_EVENT);
     let b = put_number(out, a, event as u64);
     put(out, b, b'\n')
 }

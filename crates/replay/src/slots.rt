@@ -2,29 +2,33 @@
 ghost use mathlib.Core.Path.{_≡_};
 ghost use Prim.Native.Nat.{_≤_, _<_, _^_};
 ghost use Rattle.laws.specs.Live.{slotMask, liveAt};
+ghost use Rattle.buffer_pool.specs.Record.{slotCount};
 ghost use Rattle.replay.specs.Slots as spec;
 use buffer_pool::buffer_pool::BufferPool;
 use buffer_pool::slice::Handle;
 
-// The bit of slot `p`.
+// The slot count, as a slot's number is written.
+const SLOTS: u8 = BufferPool::POOL_CAPACITY as u8;
+
+// The bit of slot `p`: "slot p is 0x80 shifted right by p − 1".
 fn mask(p: u8) -> u8
-    requires { ⌜ (1 ≤ p) × (p ≤ 8) ⌝ }
-    ensures { λ r. ⌜ r ≡ slotMask 8 p ⌝ }
+    requires { ⌜ (1 ≤ p) × (p ≤ slotCount) ⌝ }
+    ensures { λ r. ⌜ r ≡ slotMask slotCount p ⌝ }
 {
     0x80u8 >> (p - 1)
 }
 
 // Is slot `p` live?
 fn is_live(live: u8, p: u8) -> bool
-    requires { ⌜ (1 ≤ p) × (p ≤ 8) ⌝ }
-    ensures { λ r. ⌜ r ≡ liveAt 8 live p ⌝ }
+    requires { ⌜ (1 ≤ p) × (p ≤ slotCount) ⌝ }
+    ensures { λ r. ⌜ r ≡ liveAt slotCount live p ⌝ }
 {
     live & mask(p) != 0
 }
 
 // Is slot `p` live, and has it this serial?
-fn bears(live: u8, serials: [u32; 8], serial: u32, p: u8) -> bool
-    requires { ⌜ (1 ≤ p) × (p ≤ 8) ⌝ }
+fn bears(live: u8, serials: [u32; BufferPool::POOL_CAPACITY], serial: u32, p: u8) -> bool
+    requires { ⌜ (1 ≤ p) × (p ≤ slotCount) ⌝ }
     ensures { λ r. ⌜ r ≡ spec.bears live serials serial p ⌝ }
 {
     if !is_live(live, p) {
@@ -35,12 +39,12 @@ fn bears(live: u8, serials: [u32; 8], serial: u32, p: u8) -> bool
 
 // The first live slot with this serial, and 0 where no live one has it.
 fn slot_of(r: BufferPool, serial: u32) -> u8
-    ensures { λ p. ⌜ (p ≡ spec.slotOf r serial) × (p ≤ 8) ⌝ }
+    ensures { λ p. ⌜ (p ≡ spec.slotOf r serial) × (p ≤ slotCount) ⌝ }
 {
     let live = r.live;
     let serials = r.serials;
     let mut p = 1;
-    while p <= 8 {
+    while p <= SLOTS {
         if bears(live, serials, serial, p) {
             return p;
         }
@@ -81,8 +85,8 @@ fn wide(x: u32) -> u64
 }
 
 // The length of slot `p`'s slice, and 0 where it is free.
-fn held_at(live: u8, lengths: [u32; 8], p: u8) -> u64
-    requires { ⌜ (1 ≤ p) × (p ≤ 8) ⌝ }
+fn held_at(live: u8, lengths: [u32; BufferPool::POOL_CAPACITY], p: u8) -> u64
+    requires { ⌜ (1 ≤ p) × (p ≤ slotCount) ⌝ }
     ensures { λ r. ⌜ (r ≡ spec.heldAt live lengths p) × (r < 2 ^ 32) ⌝ }
 {
     if !is_live(live, p) {
@@ -99,7 +103,7 @@ pub(crate) fn held(r: BufferPool) -> u64
     let lengths = r.lengths;
     let mut total = 0;
     let mut p = 1;
-    while p <= 8 {
+    while p <= SLOTS {
         total += held_at(live, lengths, p);
         p += 1;
     }

@@ -1,13 +1,13 @@
 // The walk over a trace: its events are run one after the other, and each gives a line.
 ghost use mathlib.Core.Path.{_≡_};
 ghost use mathlib.Core.Bool.{true};
-ghost use mathlib.Core.List.{_++_};
 ghost use Prim.Native.Nat.{_+_, _≤_, _<_, _^_};
 ghost use lib.ListN.{length};
+ghost use Rattle.buffer_pool.specs.Record.{slotCount};
 ghost use Rattle.buffer_pool.specs.Moves.{memories};
 ghost use Rattle.buffer_pool.specs.Soundness.{sound};
 ghost use Rattle.trace.specs.declared.Answer.the-variants.{Trace};
-ghost use Rattle.trace.specs.Trace.{reading};
+ghost use Rattle.trace.specs.Trace.{sizeLimit, reading};
 ghost use Rattle.trace.specs.Content.{content};
 ghost use Rattle.replay.specs.Text.{output, wrote};
 ghost use Rattle.replay.specs.Run.{Within, running, left, step};
@@ -39,7 +39,7 @@ fn put_event(
     number: u64,
     e: Event,
 ) -> Walk
-    requires { ⌜ (w .at < 2 ^ 58) × (sound 8 (w .state .pool) ≡ true) × (w .state .next ≤ length (now bytes)) ⌝ }
+    requires { ⌜ (w .at < 2 ^ 58) × (sound slotCount (w .state .pool) ≡ true) × (w .state .next ≤ length (now bytes)) ⌝ }
     requires { ⌜ Within (2 ^ 63) (w .state .tally) ⌝ }
     requires { ⌜ (length (now pool) ≤ 2 ^ 32) × (length (now overflow) ≤ 2 ^ 32) × (length (now bytes) ≤ 2 ^ 32) ⌝ }
     ensures { λ r. ⌜ output (r .at) (now (out .exit)) ≡ wrote (output (w .at) (now (out .entry))) (spec.line number (step (now (bytes .entry)) (running (w .state) (memories (now (pool .entry)) (now (overflow .entry))) (now (destination .entry))) e .step .shown)) ⌝ }
@@ -68,7 +68,7 @@ fn put_events(
     bytes: &[u8],
     events: u32,
 ) -> usize
-    requires { ⌜ (w .at ≤ 1024) × (sound 8 (w .state .pool) ≡ true) × (w .state .next ≤ length (now bytes)) ⌝ }
+    requires { ⌜ (w .at ≤ 1024) × (sound slotCount (w .state .pool) ≡ true) × (w .state .next ≤ length (now bytes)) ⌝ }
     requires { ⌜ Within 0 (w .state .tally) ⌝ }
     requires { ⌜ (length (now pool) ≤ 2 ^ 32) × (length (now overflow) ≤ 2 ^ 32) × (length (now bytes) ≤ 2 ^ 32) ⌝ }
     requires { ⌜ events ≡ length (content (now file) .events) ⌝ }
@@ -122,10 +122,10 @@ fn put_run(
 }
 
 // A memory of zeros, as long as the longest that a trace asks for.
-fn zeros() -> [u8; 16384]
-    ensures { λ r. ⌜ (16384 ≡ length r) × (r ≡ spec.zeros) ⌝ }
+fn zeros() -> [u8; trace::SIZE_LIMIT as usize]
+    ensures { λ r. ⌜ (sizeLimit ≡ length r) × (r ≡ spec.zeros) ⌝ }
 {
-    [0; 16384]
+    [0; trace::SIZE_LIMIT as usize]
 }
 
 // The listing of an accepted file, run on memories of zeros.

@@ -1,4 +1,4 @@
--- Document 01's example and its neighbours are answered as the table says, by computation. Assumes nothing.
+-- The file of SPECIFICATION 12 and its neighbours are answered as the table says, by computation. Assumes nothing.
 use mathlib.Core.Path.{_≡_, refl}
 use mathlib.Core.List.{map}
 use Rattle.trace.specs.Trace.{reading}

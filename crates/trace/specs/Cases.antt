@@ -1,4 +1,4 @@
--- Document 01's example as a file, files that differ from it in a byte or two, and what reading each must give.
+-- The file of SPECIFICATION 12, files that differ from it in a byte or two, and what reading each must give.
 -- proofs/Cases.antt has the theorem.
 use mathlib.Core.List.{List, [], _∷_, _++_}
 use Prim.Native.Nat.{ℕ}

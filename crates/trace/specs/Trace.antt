@@ -1,4 +1,4 @@
--- A trace file (document 01, "The trace and poolreplay"): its numbers, its header, its events, and what reading it gives.
+-- A trace file, SPECIFICATION 9: its numbers, its header, its events, and what reading it gives.
 -- A file is the list of its bytes. `reading` is what `read` answers.
 use mathlib.Core.Bool.{Bool, true, false, _&&_}
 use mathlib.Core.List.{List, [], _∷_}
@@ -12,7 +12,7 @@ use Rattle.trace.specs.declared.Event.{Event}
 use Rattle.trace.specs.declared.Answer.{Answer}
 use Rattle.trace.specs.declared.Answer.the-variants.{Trace, BadHeader, BadEvent}
 
--- ---- The numbers that document 01 sets
+-- ---- The numbers that SPECIFICATION 9 sets
 
 -- the largest pool capacity and overflow length
 abbrev pub sizeLimit : ℕ
@@ -58,7 +58,7 @@ numberAt file at = little (part file at 4)
 
 -- ---- The header
 
--- the six numbers of the header, in their order
+-- 9.2: the six numbers of the header, in their order
 abbrev pub capacityOf : List ℕ → ℕ
 capacityOf file = numberAt file 0
 
@@ -101,13 +101,13 @@ inOrder file = eqb (byteOffset file) (eventPlace (eventCount file)) && eqb (even
 unfoldable pub ended : List ℕ → Bool
 ended file = leb (length file) fileLimit && eqb (length file) (byteOffset file + byteCount file)
 
--- the header is right
+-- 9.3: the header is right
 unfoldable pub headed : List ℕ → Bool
 headed file = complete file && (sized file && (inOrder file && ended file))
 
 -- ---- The events
 
--- the event of index i: a kind byte, three filler bytes, a number
+-- 9.4, the event of index i: a kind byte, three filler bytes, a number
 abbrev pub eventAt : List ℕ → ℕ → Event
 eventAt file i = record { kind = getD file (eventPlace i) 0; number = numberAt file (eventPlace i + 4) }
 
@@ -119,7 +119,7 @@ fillerZero file i = eqb (getD file (eventPlace i + 1) 0) 0 && (eqb (getD file (e
 unfoldable pub right : Event → Bool
 right e = leb reserveKind (e .kind) && (leb (e .kind) releaseKind && implies (eqb (e .kind) takeKind) (eqb (e .number) 0))
 
--- the event of index i is good
+-- 9.5: the event of index i is good
 unfoldable pub goodAt : List ℕ → ℕ → Bool
 goodAt file i = fillerZero file i && right (eventAt file i)
 
@@ -140,7 +140,7 @@ answerOn true (suc i) header = BadEvent (suc i)
 unfoldable pub reading : List ℕ → Answer
 reading file = answerOn (headed file) (firstBad file 0 (eventCount file)) (headerOf file)
 
--- document 01's number of an answer, 0 for an accepted file
+-- the number of an answer (SPECIFICATION 3.3), 0 for an accepted file
 abbrev pub refusalOf : Answer → ℕ
 refusalOf (Trace header) = 0
 refusalOf BadHeader = 9

@@ -1,5 +1,5 @@
-// Reading a trace file (document 01, "The trace and poolreplay"). Every function here is proved to meet its contract. No
-// public function has a `requires`: a file that is not a trace is refused by `read`, and the others answer for any file.
+// Reading a trace file (SPECIFICATION 9). Every function here is proved to meet its contract. No public function has a `requires`:
+// a file that is not a trace is refused by `read`, and the others answer for any file.
 ghost use mathlib.Core.Path.{_≡_};
 ghost use Prim.Native.Nat.{_+_, _<_, _^_};
 ghost use denote.Ref.{ptr};
@@ -8,17 +8,22 @@ ghost use Rattle.trace.specs.Trace.{numberAt, sized, inOrder, ended, hea
 ghost use Rattle.trace.specs.Content.{content, noEvent, bytesPlace, movedOn};
 
 // The largest pool capacity and overflow length.
-const SIZE_LIMIT: u32 = 16384;
+pub const SIZE_LIMIT: u32 = 16384;
 
 // The most bytes of a file.
-const FILE_LIMIT: usize = 65536;
+pub const FILE_LIMIT: usize = 65536;
 
 // The bytes of a header, and of an event.
 const HEADER_LENGTH: usize = 24;
 
 const EVENT_LENGTH: usize = 8;
 
-// The kinds of an event, as document 01 numbers them.
+// The numbers by which a file is refused: its header is wrong, or an event is bad.
+pub const WRONG_HEADER: u8 = 9;
+
+pub const BAD_EVENT: u8 = 10;
+
+// The kinds of an event (SPECIFICATION 9.4).
 pub const RESERVE: u8 = 1;
 
 pub const COMMIT: u8 = 2;
@@ -234,14 +239,14 @@ pub fn read(file: &[u8]) -> Answer
     })
 }
 
-// Document 01's number of an answer: 9 or 10, and 0 for an accepted file.
+// The number of an answer (SPECIFICATION 3.3): 9 or 10, and 0 for an accepted file.
 pub fn refusal(answer: Answer) -> u8
     ensures { λ r. ⌜ r ≡ refusalOf answer ⌝ }
 {
     match answer {
         Answer::Trace(_) => 0,
-        Answer::BadHeader => 9,
-        Answer::BadEvent(_) => 10,
+        Answer::BadHeader => WRONG_HEADER,
+        Answer::BadEvent(_) => BAD_EVENT,
     }
 }
 

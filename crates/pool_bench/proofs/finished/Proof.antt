@@ -7,8 +7,8 @@ use Rattle.pool_bench.proofs.finished.Tie as tie
 take-requires : tie.Need-take-requires
 take-requires c κs = search needs
 
-taken-requires : tie.Need-taken-requires
-taken-requires c κs = search needs
+handle-requires : tie.Need-handle-requires
+handle-requires c κs = search needs
 
 release-requires : tie.Need-release-requires
 release-requires c κs = search needs
@@ -23,4 +23,4 @@ returns : tie.Need-returns
 returns c = search finished-as
 
 pub finished-spec : {M : Type 1} → statement M
-finished-spec = tie.close (tie.spec take-requires taken-requires release-requires same-length same-length-2 returns)
+finished-spec = tie.close (tie.spec take-requires handle-requires release-requires same-length same-length-2 returns)

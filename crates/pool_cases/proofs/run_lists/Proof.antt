@@ -2,7 +2,7 @@
 use borrow.Author.Needs.{needs}
 use lib.ListN.{length}
 use mathlib.Core.Path.{_≡_}
-use Prim.Native.Nat.{_≤_, _-_}
+use Prim.Native.Nat.{_-_}
 use Rattle.pool_cases.proofs.run_lists.Statement.{statement}
 use Rattle.pool_cases.proofs.run_lists.Tie as tie
 

@@ -16,8 +16,8 @@ slice-aggregate-take c = search (front-length, needs)
 take-requires : tie.Need-take-requires
 take-requires c κs = search needs
 
-copied-of-requires : tie.Need-copied-of-requires
-copied-of-requires c κs = search needs
+copied-requires : tie.Need-copied-requires
+copied-requires c κs = search needs
 
 called-requires : tie.Need-called-requires
 called-requires c κs = search needs
@@ -51,7 +51,7 @@ take-spec =
     slice-relend-prefix-take
     slice-aggregate-take
     take-requires
-    copied-of-requires
+    copied-requires
     called-requires
     same-length
     same-length-2

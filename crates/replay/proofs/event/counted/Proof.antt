@@ -4,29 +4,44 @@ use borrow.Author.Needs.{needs}
 use Rattle.replay.proofs.event.counted.Statement.{statement}
 use Rattle.replay.proofs.event.counted.Tie as tie
 
-refused-requires : tie.Need-refused-requires
-refused-requires c κs = search needs
+handle-requires : tie.Need-handle-requires
+handle-requires c κs = search needs
 
-sub-t4 : tie.Need-sub-t4
-sub-t4 c = search needs
+copied-requires : tie.Need-copied-requires
+copied-requires c κs = search needs
 
-add-t5 : tie.Need-add-t5
-add-t5 c = search needs
+refusal-requires : tie.Need-refusal-requires
+refusal-requires c κs = search needs
 
-add-t6 : tie.Need-add-t6
-add-t6 c = search needs
+cast-some : tie.Need-cast-some
+cast-some c = search needs
 
-taken-requires : tie.Need-taken-requires
-taken-requires c κs = search needs
+some-requires : tie.Need-some-requires
+some-requires c κs = search needs
 
-add-t8 : tie.Need-add-t8
-add-t8 c = search needs
+either-requires : tie.Need-either-requires
+either-requires c κs = search needs
 
-spilled-requires : tie.Need-spilled-requires
-spilled-requires c κs = search needs
+some-requires-2 : tie.Need-some-requires-2
+some-requires-2 c κs = search needs
+
+some-requires-3 : tie.Need-some-requires-3
+some-requires-3 c κs = search needs
+
+sub-t9 : tie.Need-sub-t9
+sub-t9 c = search needs
 
 add-t10 : tie.Need-add-t10
 add-t10 c = search needs
+
+add-t11 : tie.Need-add-t11
+add-t11 c = search needs
+
+add-t12 : tie.Need-add-t12
+add-t12 c = search needs
+
+add-t13 : tie.Need-add-t13
+add-t13 c = search needs
 
 returns : tie.Need-returns
 returns c = search counted-as
@@ -35,12 +50,17 @@ pub counted-spec : {M : Type 1} → statement M
 counted-spec =
     tie.close
     (tie.spec
-    refused-requires
-    sub-t4
-    add-t5
-    add-t6
-    taken-requires
-    add-t8
-    spilled-requires
+    handle-requires
+    copied-requires
+    refusal-requires
+    cast-some
+    some-requires
+    either-requires
+    some-requires-2
+    some-requires-3
+    sub-t9
     add-t10
+    add-t11
+    add-t12
+    add-t13
     returns)

@@ -4,11 +4,11 @@ use borrow.Author.Needs.{needs}
 use Rattle.replay.proofs.listing.put_nine.Statement.{statement}
 use Rattle.replay.proofs.listing.put_nine.Tie as tie
 
-slice-aggregate-put-some : tie.Need-slice-aggregate-put-some
-slice-aggregate-put-some c = search needs
+put-refused-requires : tie.Need-put-refused-requires
+put-refused-requires c κs = search needs
 
-put-some-requires : tie.Need-put-some-requires
-put-some-requires c κs = search needs
+put-requires : tie.Need-put-requires
+put-requires c κs = search needs
 
 same-length : tie.Need-same-length
 same-length c = search needs
@@ -17,4 +17,4 @@ returns : tie.Need-returns
 returns c = search nine-line
 
 pub put-nine-spec : {M : Type 1} → statement M
-put-nine-spec = tie.close (tie.spec slice-aggregate-put-some put-some-requires same-length returns)
+put-nine-spec = tie.close (tie.spec put-refused-requires put-requires same-length returns)

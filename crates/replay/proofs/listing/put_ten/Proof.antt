@@ -4,11 +4,8 @@ use borrow.Author.Needs.{needs}
 use Rattle.replay.proofs.listing.put_ten.Statement.{statement}
 use Rattle.replay.proofs.listing.put_ten.Tie as tie
 
-slice-aggregate-put-some : tie.Need-slice-aggregate-put-some
-slice-aggregate-put-some c = search needs
-
-put-some-requires : tie.Need-put-some-requires
-put-some-requires c κs = search needs
+put-refused-requires : tie.Need-put-refused-requires
+put-refused-requires c κs = search needs
 
 put-number-requires : tie.Need-put-number-requires
 put-number-requires c κs = search needs
@@ -23,12 +20,4 @@ returns : tie.Need-returns
 returns c = search ten-line
 
 pub put-ten-spec : {M : Type 1} → statement M
-put-ten-spec =
-    tie.close
-    (tie.spec
-    slice-aggregate-put-some
-    put-some-requires
-    put-number-requires
-    put-requires
-    same-length
-    returns)
+put-ten-spec = tie.close (tie.spec put-refused-requires put-number-requires put-requires same-length returns)

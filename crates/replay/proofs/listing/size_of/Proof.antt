@@ -5,7 +5,6 @@ use mathlib.Core.Path.{ap}
 use lib.IntN.{natAbs}
 use mir.Facts.{toZ-ofZ, fits-natAbs, sfits-toZ, fits-ofZ}
 use Rattle.replay.proofs.Size.{w-fits, m-fits, cast-ok, sum-ok, sum-is, not-neg}
-use borrow.Author.Needs.{needs}
 use Rattle.replay.proofs.listing.size_of.Statement.{statement}
 use Rattle.replay.proofs.listing.size_of.Tie as tie
 
