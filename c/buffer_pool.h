@@ -8,7 +8,7 @@
  * every call. No call allocates, waits, or keeps a pointer. Every call answers, for every record, handle and length, with a
  * result or a refusal:
  *
- *   1  the record fails the soundness test (a mode that is no mode among others)
+ *   1  the record fails the soundness test (among others: a mode that is no mode, a bit of live beyond the slots')
  *   2  a lent memory's length is not the record's
  *   3  new: either memory has more than 1,048,576 bytes
  *   4  reserve: the overflow would be used, and frame and reservation together exceed it
@@ -20,6 +20,9 @@
  * They are tested in this order: 1, 2, then the call's own; new gives only 3. A refused call changes nothing: the record, both
  * memories and the destination keep every byte, and every number of its result but the refusal is 0. What is not refused has
  * refusal 0.
+ *
+ * No struct has padding: every byte belongs to a field. A record can be stored, and records and results be compared, as bytes.
+ * Every number of a result has 64 bits, but for those of a record or handle in it; release gives its refusal alone, as a byte.
  *
  * What a caller must see to, as no callee can: a pointer points to as many bytes as the length beside it says, also if that is 0
  * (any pointer that is not null will do then); record, pool memory, overflow and destination have no byte in common; one call at
@@ -79,8 +82,8 @@ typedef struct {
     uint32_t lengths[BUFFER_POOL_SLOTS]; /* length */
     uint32_t serials[BUFFER_POOL_SLOTS]; /* and serial of the slice last taken in each slot; slot 1 comes first */
     uint32_t given;                      /* serials given */
-    uint8_t live;                        /* slot p is live if the bit 0x80 >> (p - 1) is set */
-    uint8_t mode;                        /* BUFFER_POOL_BACK, .._FRONT or .._OVERFLOW */
+    uint16_t live;                       /* slot p is live if the bit 0x80 >> (p - 1) is set; no other bit is */
+    uint16_t mode;                       /* BUFFER_POOL_BACK, .._FRONT or .._OVERFLOW */
     size_t back_start;                   /* the slots before the back */
     size_t back_len;                     /* the slots of the back */
     size_t used;                         /* slots used */
@@ -94,14 +97,11 @@ typedef struct {
     uint64_t reserved;                   /* length of the reservation, 0 once it is spent */
 } buffer_pool_record;
 
-/* The layout that the archive was made for. */
-typedef char buffer_pool_record_has_208_bytes[sizeof(buffer_pool_record) == 208 ? 1 : -1];
-
 /* A range of bytes: length bytes from start on, in the memory that is named. */
 typedef struct {
     uint64_t start;
     uint64_t length;
-    uint8_t memory; /* BUFFER_POOL_POOL_MEMORY or BUFFER_POOL_OVERFLOW_MEMORY */
+    uint64_t memory; /* BUFFER_POOL_POOL_MEMORY or BUFFER_POOL_OVERFLOW_MEMORY */
 } buffer_pool_place;
 
 /* Names a slice. It is plain data: once the slice is released, the handle is refused with 7. */
@@ -109,34 +109,63 @@ typedef struct {
     uint32_t start;  /* the slice's place in the pool memory */
     uint32_t length;
     uint32_t serial; /* 1, 2, 3, .. over all takes that gave a slice */
-    uint8_t slot;    /* 1 to 8 */
+    uint32_t slot;   /* 1 to 8 */
 } buffer_pool_handle;
 
 /* What a reserve gives. */
 typedef struct {
     buffer_pool_place place; /* the reservation */
-    uint32_t changes;        /* how often the mode changed, at most twice */
-    uint8_t refusal;
+    uint64_t changes;        /* how often the mode changed, at most twice */
+    uint64_t refusal;
 } buffer_pool_reserved;
 
 /* What commit, truncate and the views give. */
 typedef struct {
     buffer_pool_place place;
-    uint8_t refusal;
+    uint64_t refusal;
 } buffer_pool_placed;
 
 /* What a take gives: a slice, or with handle.slot 0 the count of bytes that were copied to the destination. */
 typedef struct {
     buffer_pool_handle handle;
     uint64_t copied; /* 0 for a slice and for an empty frame */
-    uint8_t refusal;
+    uint64_t refusal;
 } buffer_pool_taken;
 
 /* What new gives. */
 typedef struct {
     buffer_pool_record record;
-    uint8_t refusal;
+    uint64_t refusal;
 } buffer_pool_created;
+
+/* The layout that the archive was made for: the size of each struct, which is also the sum of its fields' sizes. An array type of -1
+ * elements does not compile. */
+#define BUFFER_POOL_OF(type, field) sizeof(((buffer_pool_##type *)0)->field)
+#define BUFFER_POOL_LAYOUT(type, bytes, fields) \
+    typedef char buffer_pool_##type##_has_##bytes##_bytes_and_no_padding \
+        [sizeof(buffer_pool_##type) == bytes && (fields) == bytes ? 1 : -1]
+
+BUFFER_POOL_LAYOUT(record, 208,
+                   BUFFER_POOL_OF(record, capacity) + BUFFER_POOL_OF(record, overflow) + BUFFER_POOL_OF(record, starts)
+                       + BUFFER_POOL_OF(record, lengths) + BUFFER_POOL_OF(record, serials) + BUFFER_POOL_OF(record, given)
+                       + BUFFER_POOL_OF(record, live) + BUFFER_POOL_OF(record, mode) + BUFFER_POOL_OF(record, back_start)
+                       + BUFFER_POOL_OF(record, back_len) + BUFFER_POOL_OF(record, used) + BUFFER_POOL_OF(record, raw_offset)
+                       + BUFFER_POOL_OF(record, raw_len) + BUFFER_POOL_OF(record, front_back_start)
+                       + BUFFER_POOL_OF(record, front_byte_capacity) + BUFFER_POOL_OF(record, front_len)
+                       + BUFFER_POOL_OF(record, kept) + BUFFER_POOL_OF(record, cursor) + BUFFER_POOL_OF(record, reserved));
+BUFFER_POOL_LAYOUT(place, 24, BUFFER_POOL_OF(place, start) + BUFFER_POOL_OF(place, length) + BUFFER_POOL_OF(place, memory));
+BUFFER_POOL_LAYOUT(handle, 16,
+                   BUFFER_POOL_OF(handle, start) + BUFFER_POOL_OF(handle, length) + BUFFER_POOL_OF(handle, serial)
+                       + BUFFER_POOL_OF(handle, slot));
+BUFFER_POOL_LAYOUT(reserved, 40,
+                   BUFFER_POOL_OF(reserved, place) + BUFFER_POOL_OF(reserved, changes) + BUFFER_POOL_OF(reserved, refusal));
+BUFFER_POOL_LAYOUT(placed, 32, BUFFER_POOL_OF(placed, place) + BUFFER_POOL_OF(placed, refusal));
+BUFFER_POOL_LAYOUT(taken, 32,
+                   BUFFER_POOL_OF(taken, handle) + BUFFER_POOL_OF(taken, copied) + BUFFER_POOL_OF(taken, refusal));
+BUFFER_POOL_LAYOUT(created, 216, BUFFER_POOL_OF(created, record) + BUFFER_POOL_OF(created, refusal));
+
+#undef BUFFER_POOL_LAYOUT
+#undef BUFFER_POOL_OF
 
 /* Makes a pool. The pool memory is filled with zeros; the overflow counts as empty and its bytes stay.
  * Refuses with 3; the record is then that of a new pool whose two lengths are 0. */

@@ -14,10 +14,10 @@ static uint8_t page[sizeof overflow];
 static buffer_pool_record record;
 
 /* Ends the program if a call that must be done was refused. */
-static void done(const char *call, uint8_t refusal)
+static void done(const char *call, uint64_t refusal)
 {
     if (refusal != BUFFER_POOL_DONE) {
-        printf("%s: refused with %d\n", call, refusal);
+        printf("%s: refused with %u\n", call, (unsigned)refusal);
         exit(1);
     }
 }
@@ -80,7 +80,13 @@ int main(void)
 
     done("release", release(first.handle));
     printf("first released, live slots %02x\n", (unsigned)record.live);
-    printf("first released again: refused with %u\n", (unsigned)release(first.handle));
+
+    /* A refused call leaves the record as it was, byte for byte. */
+    buffer_pool_record before = record;
+    unsigned refusal = release(first.handle);
+    printf("first released again: refused with %u, record %s\n", refusal,
+           memcmp(&before, &record, sizeof record) == 0 ? "as it was" : "changed");
+
     done("release", release(second.handle));
     printf("second released, live slots %02x\n", (unsigned)record.live);
 

@@ -3,7 +3,6 @@ use mathlib.Core.Path.{_≡_, refl, ap, _∙_}
 use mathlib.Core.Bool.{Bool, true, false, not}
 use mathlib.Core.List.{List, []}
 use Prim.Native.Nat.{ℕ}
-use Rattle.laws.specs.Tests.{pick}
 use Rattle.laws.proofs.Tests.{not-true, not-false}
 use Rattle.buffer_pool.specs.declared.slice.Handle as pool
 use Rattle.buffer_pool.specs.declared.buffer_pool.BufferPool.{BufferPool}
@@ -13,21 +12,22 @@ use Rattle.buffer_pool.specs.declared.buffer_pool.Answer.the-variants.{Refused}
 use Rattle.buffer_pool.specs.declared.buffer_pool.Called.{Called}
 use Rattle.buffer_pool.specs.declared.buffer_pool.View.{View}
 use Rattle.buffer_pool.specs.Moves.{Memories}
-use Rattle.buffer_pool.specs.Steps.{refusal}
+use Rattle.buffer_pool.specs.Values.{values}
 use Rattle.buffer_pool.specs.Calls as calls
-use Rattle.buffer_pool.specs.Calls.{Outcome, outcome, hidden}
+use Rattle.buffer_pool.specs.Calls.{Outcome, outcome}
 use Rattle.buffer_pool_c.specs.declared.record.Record.{Record}
 use Rattle.buffer_pool_c.specs.declared.results.Handle.{Handle}
 use Rattle.buffer_pool_c.specs.declared.results.ReserveResult.{ReserveResult}
 use Rattle.buffer_pool_c.specs.declared.results.PlaceResult.{PlaceResult}
 use Rattle.buffer_pool_c.specs.declared.results.TakeResult.{TakeResult}
 use Rattle.buffer_pool_c.specs.Record.{known, noFront, poolOf, recordOf, recordAfter}
-use Rattle.buffer_pool_c.specs.Results.{reserveResult, placeResult, takeResult, viewResult, named}
+use Rattle.buffer_pool_c.specs.Results.{reserveResult, placeResult, takeResult, refusalResult, viewResult, unknownView, named, slotInByte}
 use Rattle.buffer_pool_c.specs.Exports.{left, seen, exported, reserve, commit, truncate, take, release, newly, new, exportedView, frame, reservation, slice}
+use Rattle.buffer_pool_c.proofs.ResultLaws.{released-in-byte, viewed-in-byte}
 
--- ---- A call, by whether the record's mode is known
+-- ---- A call, by whether the record is known
 
-module _ {A : Type 0} (result : Answer → A) (r : Record) (b : Bool) (e : b ≡ known (r .mode)) (m : Memories) (destination : List ℕ) (o : Outcome) (x : A) where
+module _ {A : Type 0} (result : Answer → A) (r : Record) (b : Bool) (e : b ≡ known r) (m : Memories) (destination : List ℕ) (o : Outcome) (x : A) where
   pub turned : not b ≡ true → x ≡ result (Refused 1) → left x r m destination ≡ exported result r m destination o
   turned t f = rw (← e, not-true b t, f) refl
 
@@ -36,7 +36,7 @@ module _ {A : Type 0} (result : Answer → A) (r : Record) (b : Bool) (e : b ≡
   through t c after ended g f h i = rw (← e, not-false b t, f, i) (ap (seen result r) g)
 
 -- what the direct call left on the pool's record is what the exported call leaves
-module _ (r : Record) (b : Bool) (e : b ≡ known (r .mode)) (t : not b ≡ false) (p : BufferPool) (i : p ≡ poolOf r) (m : Memories) (c : Called) (after : Memories) (h : Record) (f : h ≡ recordAfter r (c .pool)) where
+module _ (r : Record) (b : Bool) (e : b ≡ known r) (t : not b ≡ false) (p : BufferPool) (i : p ≡ poolOf r) (m : Memories) (c : Called) (after : Memories) (h : Record) (f : h ≡ recordAfter r (c .pool)) where
   pub reserve-through : (len : ℕ) → outcome c after [] ≡ calls.reserve 8 p m len → (x : ReserveResult) → x ≡ reserveResult (c .answer) → left x h after [] ≡ reserve r m len
   unfolding reserve
   reserve-through len g x k = through reserveResult r b e m [] _ x t c after [] (g ∙ ap (λ (q : BufferPool). calls.reserve 8 q m len) i) k h f
@@ -53,14 +53,14 @@ module _ (r : Record) (b : Bool) (e : b ≡ known (r .mode)) (t : not b ≡ fals
   unfolding take
   take-through d ended g x k = through takeResult r b e m d _ x t c after ended (g ∙ ap (λ (q : BufferPool). calls.take 8 q m d) i) k h f
 
-  pub release-through : (a : Handle) (n : pool.Handle) → n ≡ named a → outcome c after [] ≡ calls.release 8 p m n → (x : ℕ) → x ≡ refusal (c .answer) → left x h after [] ≡ release r m a
+  pub release-through : (a : Handle) (n : pool.Handle) → n ≡ named (slotInByte a) → outcome c after [] ≡ calls.release 8 p m n → (x : ℕ) → x ≡ values (c .answer) .number → left x h after [] ≡ release r m a
   unfolding release
-  release-through a n j g x k = through refusal r b e m [] (calls.release 8 (poolOf r) m (named a)) x t c after [] (g ∙ rw (i, j) refl) k h f
+  release-through a n j g x k = through refusalResult r b e m [] (calls.release 8 (poolOf r) m (named a)) x t c after [] (g ∙ rw (i, j) (released-in-byte (poolOf r) m a)) k h f
 
 -- ---- Views
 
-module _ (r : Record) (b : Bool) (e : b ≡ known (r .mode)) (x : PlaceResult) where
-  pub turned-view : not b ≡ true → (v : View) → x ≡ viewResult (hidden 1) → x ≡ exportedView r v
+module _ (r : Record) (b : Bool) (e : b ≡ known r) (x : PlaceResult) where
+  pub turned-view : not b ≡ true → (v : View) → x ≡ unknownView → x ≡ exportedView r v
   turned-view t v f = f ∙ rw (← e, not-true b t) refl
 
   view-through : not b ≡ false → (v w : View) → v ≡ w → x ≡ viewResult v → x ≡ exportedView r w
@@ -75,12 +75,12 @@ module _ (r : Record) (b : Bool) (e : b ≡ known (r .mode)) (x : PlaceResult) w
     unfolding reservation
     reservation-through g = view-through t v (calls.reservationView 8 (poolOf r) m) (g ∙ ap (λ (q : BufferPool). calls.reservationView 8 q m) i) k
 
-    pub slice-through : (a : Handle) (n : pool.Handle) → n ≡ named a → v ≡ calls.sliceView 8 p m n → x ≡ slice r m a
+    pub slice-through : (a : Handle) (n : pool.Handle) → n ≡ named (slotInByte a) → v ≡ calls.sliceView 8 p m n → x ≡ slice r m a
     unfolding slice
-    slice-through a n j g = view-through t v (calls.sliceView 8 (poolOf r) m (named a)) (g ∙ rw (i, j) refl) k
+    slice-through a n j g = view-through t v (calls.sliceView 8 (poolOf r) m (named a)) (g ∙ rw (i, j) (viewed-in-byte (poolOf r) m a)) k
 
 -- ---- New
 
-pub new-as : (c : Called) (m after : Memories) → outcome c after [] ≡ calls.new 8 m → (n : ℕ) → n ≡ refusal (c .answer) → (before : PoolFront) → before ≡ noFront → (h : Record) → h ≡ recordOf before (c .pool) → left n h after [] ≡ new m
+pub new-as : (c : Called) (m after : Memories) → outcome c after [] ≡ calls.new 8 m → (n : ℕ) → n ≡ values (c .answer) .number → (before : PoolFront) → before ≡ noFront → (h : Record) → h ≡ recordOf before (c .pool) → left n h after [] ≡ new m
 unfolding new
 new-as c m after g n f before v h i = rw (f, i, v) (ap newly g)

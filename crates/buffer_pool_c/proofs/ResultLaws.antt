@@ -1,42 +1,73 @@
 -- The results, from what the code of results.rt knows where it returns. Assumes nothing.
-use mathlib.Core.Path.{_≡_, refl, _∙_}
-use Prim.Native.Nat.{ℕ}
+use mathlib.Core.Path.{_≡_, refl, sym, _∙_}
+use mathlib.Core.Bool.{Bool, true, false}
+use mathlib.Core.List.{[]}
+use Prim.Native.Nat.{ℕ, _<_, _≤_}
+use native.Mathlib.Omega.{arith}
+use lib.Dec.{ltb}
+use borrow.Author.Tests.{ltb-false, le-leb, lt-leb}
+use Rattle.laws.specs.Tests.{pick}
 use Rattle.buffer_pool.specs.declared.slice.Handle as pool
 use Rattle.buffer_pool.specs.declared.buffer_pool.Place as range
 use Rattle.buffer_pool.specs.declared.buffer_pool.View.{View}
 use Rattle.buffer_pool.specs.declared.buffer_pool.Answer.{Answer}
-use Rattle.buffer_pool.specs.declared.buffer_pool.Answer.the-variants.{Reserved, Framed, Taken}
-use Rattle.buffer_pool.specs.Steps.{refusal, copiedLength}
-use Rattle.buffer_pool.specs.Calls.{hidden}
+use Rattle.buffer_pool.specs.declared.buffer_pool.BufferPool.{BufferPool}
+use Rattle.buffer_pool.specs.Record.{slotCount}
+use Rattle.buffer_pool.specs.Moves.{Memories}
+use Rattle.buffer_pool.specs.Values.{values}
+use Rattle.buffer_pool.specs.Steps.{refused, names, releaseStep}
+use Rattle.buffer_pool.specs.Calls as calls
+use Rattle.buffer_pool.specs.Calls.{outcome, guarded, guardedCall, hidden}
 use Rattle.buffer_pool_c.specs.declared.results.Place.{Place}
 use Rattle.buffer_pool_c.specs.declared.results.Handle.{Handle}
-use Rattle.buffer_pool_c.specs.Results.{memoryNumber, placeOf, placeIn, changesIn, handleOf, handleIn, reserveResult, placeResult, takeResult, viewResult, noPlace}
+use Rattle.buffer_pool_c.specs.Results.{memoryNumber, placeOf, handleOf, reserveResult, placeResult, takeResult, viewResult, named, slotByte, slotInByte}
 
 pub place-as : (p : range.Place) (n : ℕ) → n ≡ memoryNumber (p .memory) → record { start = p .start; length = p .length; memory = n } ≡ placeOf p
 place-as p n e = rw e refl
 
-module _ (a : Answer) where
-  pub place-reserved : (p : range.Place) (changes : ℕ) → a ≡ Reserved p changes → (q : Place) → q ≡ placeOf p → q ≡ placeIn a
-  place-reserved p changes e q f = f ∙ rw e refl
+-- an answer's values, as the code reads them
+module _ (a : Answer) (n : ℕ) (z : n ≡ values a .number) where
+  module _ (p : range.Place) (e : p ≡ values a .place) (q : Place) (g : q ≡ placeOf p) where
+    pub place-result-as : record { place = q; refusal = n } ≡ placeResult a
+    place-result-as = rw (g, e, z) refl
 
-  pub place-framed : (p : range.Place) → a ≡ Framed p → (q : Place) → q ≡ placeOf p → q ≡ placeIn a
-  place-framed p e q f = f ∙ rw e refl
+    pub reserve-result-as : (k : ℕ) → k ≡ values a .changes → record { place = q; changes = k; refusal = n } ≡ reserveResult a
+    reserve-result-as k f = rw (g, e, f, z) refl
 
-  pub handle-taken : (h : pool.Handle) → a ≡ Taken h → (g : Handle) → g ≡ handleOf h → g ≡ handleIn a
-  handle-taken h e g f = f ∙ rw e refl
-
-  module _ (n : ℕ) (z : n ≡ refusal a) where
-    pub place-result-as : (q : Place) → q ≡ placeIn a → record { place = q; refusal = n } ≡ placeResult a
-    place-result-as q e = rw (e, z) refl
-
-    pub reserve-result-as : (q : Place) → q ≡ placeIn a → (k : ℕ) → k ≡ changesIn a → record { place = q; changes = k; refusal = n } ≡ reserveResult a
-    reserve-result-as q e k f = rw (e, f, z) refl
-
-    pub take-result-as : (g : Handle) → g ≡ handleIn a → (k : ℕ) → k ≡ copiedLength a → record { handle = g; copied = k; refusal = n } ≡ takeResult a
-    take-result-as g e k f = rw (e, f, z) refl
+  pub take-result-as : (h : pool.Handle) → h ≡ values a .handle → (g : Handle) → g ≡ handleOf h → (k : ℕ) → k ≡ values a .length
+      → record { handle = g; copied = k; refusal = n } ≡ takeResult a
+  take-result-as h e g i k f = rw (i, e, f, z) refl
 
 pub view-result-as : (v : View) (q : Place) → q ≡ placeOf (v .place) → record { place = q; refusal = v .number } ≡ viewResult v
 view-result-as v q e = rw e refl
 
-pub unknown-as : (q : Place) → q ≡ noPlace → record { place = q; refusal = 1 } ≡ viewResult (hidden 1)
-unknown-as q e = rw e refl
+pub named-as : (h : Handle) (n : ℕ) → n ≡ slotByte (h .slot) → record { slot = n; start = h .start; length = h .length; serial = h .serial } ≡ named (slotInByte h)
+named-as h n e = rw e refl
+
+-- ---- A slot that has no byte
+
+-- a slot above the slot count names no slice
+pub no-slot : (p : BufferPool) (h : pool.Handle) → slotCount < h .slot → names slotCount p h ≡ false
+unfolding names
+no-slot p h beyond = rw (le-leb 1 (h .slot) (omega arith), lt-leb (h .slot) slotCount beyond) refl
+
+-- so a call that turns every handle away that names no slice does the same for a slot without a byte and for slot 0
+module _ (p : BufferPool) {A : Type 0} (f : pool.Handle → A) (turned : A) (off : (h : pool.Handle) → names slotCount p h ≡ false → f h ≡ turned) (h : Handle) where
+  in-byte : f (named (slotInByte h)) ≡ f (named h)
+  unfolding names
+  in-byte = go (ltb (h .slot) 256) refl
+    where
+      go : (b : Bool) → ltb (h .slot) 256 ≡ b → f (record { slot = pick b (h .slot) 0; start = h .start; length = h .length; serial = h .serial }) ≡ f (named h)
+      go true e = refl
+      go false e =
+          let wide : 256 ≤ h .slot = ltb-false (h .slot) 256 e in
+          off _ refl ∙ sym (off (named h) (no-slot p (named h) (omega (arith, wide))))
+
+module _ (p : BufferPool) (m : Memories) (h : Handle) where
+  pub released-in-byte : calls.release slotCount p m (named (slotInByte h)) ≡ calls.release slotCount p m (named h)
+  unfolding calls.release releaseStep
+  released-in-byte = in-byte p (calls.release slotCount p m) (guardedCall slotCount p m [] (outcome (refused p 7) m [])) (λ n e. rw e refl) h
+
+  pub viewed-in-byte : calls.sliceView slotCount p m (named (slotInByte h)) ≡ calls.sliceView slotCount p m (named h)
+  unfolding calls.sliceView
+  viewed-in-byte = in-byte p (calls.sliceView slotCount p m) (guarded slotCount p m hidden (hidden 7)) (λ n e. rw e refl) h

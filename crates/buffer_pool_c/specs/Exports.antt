@@ -1,6 +1,6 @@
--- The exported calls: result, record and every lent byte are the direct call's (crate buffer_pool, specs/Calls.antt). A record whose
--- mode is no mode's number is refused with 1. proofs/RefusedKeeps.antt shows that a refused call leaves the record as C lent it.
-use mathlib.Core.Bool.{Bool, true, false}
+-- The exported calls: result, record and every lent byte are the direct call's (crate buffer_pool, specs/Calls.antt). A record that
+-- is no pool's, by its live word or its mode, is refused with 1. proofs/RefusedKeeps.antt shows that a refused call leaves the record
+-- as C lent it.
 use mathlib.Core.List.{List, []}
 use Prim.Native.Nat.{ℕ}
 use Rattle.laws.specs.Tests.{pick}
@@ -9,9 +9,8 @@ use Rattle.buffer_pool.specs.declared.buffer_pool.Answer.the-variants.{Refused}
 use Rattle.buffer_pool.specs.declared.buffer_pool.View.{View}
 use Rattle.buffer_pool.specs.Record.{slotCount}
 use Rattle.buffer_pool.specs.Moves.{Memories}
-use Rattle.buffer_pool.specs.Steps.{refusal}
 use Rattle.buffer_pool.specs.Calls as calls
-use Rattle.buffer_pool.specs.Calls.{Outcome, hidden}
+use Rattle.buffer_pool.specs.Calls.{Outcome}
 use Rattle.buffer_pool_c.specs.declared.record.Record.{Record}
 use Rattle.buffer_pool_c.specs.declared.results.Handle.{Handle}
 use Rattle.buffer_pool_c.specs.declared.results.ReserveResult.{ReserveResult}
@@ -36,11 +35,11 @@ seen result r o = left (result (o .call .answer)) (recordAfter r (o .call .pool)
 
 -- an exported call on a record: refused with 1, or what the direct call left
 abbrev pub exported : {A : Type 0} → (Answer → A) → Record → Memories → List ℕ → Outcome → Left A
-exported result r m destination o = pick (known (r .mode)) (seen result r o) (left (result (Refused 1)) r m destination)
+exported result r m destination o = pick (known r) (seen result r o) (left (result (Refused 1)) r m destination)
 
 -- what a new pool leaves
 abbrev pub newly : Outcome → Left ℕ
-newly o = left (refusal (o .call .answer)) (recordOf noFront (o .call .pool)) (o .memory) (o .destination)
+newly o = left (results.refusalResult (o .call .answer)) (recordOf noFront (o .call .pool)) (o .memory) (o .destination)
 
 unfoldable pub new : Memories → Left ℕ
 new m = newly (calls.new slotCount m)
@@ -57,15 +56,14 @@ truncate r m n = exported results.placeResult r m [] (calls.truncate slotCount (
 unfoldable pub take : Record → Memories → List ℕ → Left TakeResult
 take r m destination = exported results.takeResult r m destination (calls.take slotCount (poolOf r) m destination)
 
--- gives the refusal alone
 unfoldable pub release : Record → Memories → Handle → Left ℕ
-release r m h = exported refusal r m [] (calls.release slotCount (poolOf r) m (results.named h))
+release r m h = exported results.refusalResult r m [] (calls.release slotCount (poolOf r) m (results.named h))
 
 -- ---- Views
 
 -- a view of a record: refused with 1, or the direct view
 abbrev pub exportedView : Record → View → PlaceResult
-exportedView r view = results.viewResult (pick (known (r .mode)) view (hidden 1))
+exportedView r view = pick (known r) (results.viewResult view) results.unknownView
 
 unfoldable pub frame : Record → Memories → PlaceResult
 frame r m = exportedView r (calls.frameView slotCount (poolOf r) m)

@@ -1,16 +1,25 @@
 -- The record as C holds it: the pool's record with its mode as a number.
-use mathlib.Core.Bool.{Bool}
-use Prim.Native.Nat.{ℕ, zero, suc}
-use lib.Dec.{leb}
+use mathlib.Core.Bool.{Bool, _&&_}
+use Prim.Native.Nat.{ℕ, zero, suc, _^_}
+use lib.Dec.{leb, ltb}
 use Rattle.buffer_pool.specs.declared.buffer_pool.BufferPool.{BufferPool}
 use Rattle.buffer_pool.specs.declared.buffer_pool.PoolFront.{PoolFront}
 use Rattle.buffer_pool.specs.declared.buffer_pool.PoolMode.{PoolMode}
 use Rattle.buffer_pool.specs.declared.buffer_pool.PoolMode.the-variants.{Back, Front, Alloc}
+use Rattle.buffer_pool.specs.Record.{slotCount}
 use Rattle.buffer_pool_c.specs.declared.record.Record.{Record}
 
 -- is it the number of a mode?
-abbrev pub known : ℕ → Bool
-known number = leb number 2
+abbrev pub isMode : ℕ → Bool
+isMode number = leb number 2
+
+-- is it a word of live slots, which has as many bits as there are slots?
+abbrev pub isLiveWord : ℕ → Bool
+isLiveWord word = ltb word (2 ^ slotCount)
+
+-- can the record be a pool's, by its live word and its mode? C's fields hold any number of 16 bits
+abbrev pub known : Record → Bool
+known r = isLiveWord (r .live) && isMode (r .mode)
 
 -- the mode with this number: 0 the back, 1 the front, 2 the overflow
 abbrev pub modeOf : ℕ → PoolFront → PoolMode

@@ -1,12 +1,15 @@
--- What the exported calls give, read off the direct call's answer: a number that the answer does not have is 0.
+-- What the exported calls give: the values of the direct call's answer (crate buffer_pool, specs/Values.antt) as numbers of C's. A
+-- number that the answer does not have is 0.
 use Prim.Native.Nat.{ℕ}
+use lib.Dec.{ltb}
+use Rattle.laws.specs.Tests.{pick}
 use Rattle.buffer_pool.specs.declared.slice.Handle as pool
 use Rattle.buffer_pool.specs.declared.buffer_pool.Memory.{Memory}
 use Rattle.buffer_pool.specs.declared.buffer_pool.Memory.the-variants.{Pool, Overflow}
 use Rattle.buffer_pool.specs.declared.buffer_pool.Place as range
 use Rattle.buffer_pool.specs.declared.buffer_pool.Answer.{Answer}
-use Rattle.buffer_pool.specs.declared.buffer_pool.Answer.the-variants.{Done, Reserved, Framed, Taken, Copied, Refused}
-use Rattle.buffer_pool.specs.Steps.{refusal, copiedLength}
+use Rattle.buffer_pool.specs.Values.{values}
+use Rattle.buffer_pool.specs.Calls.{hidden}
 use Rattle.buffer_pool.specs.declared.buffer_pool.View.{View}
 use Rattle.buffer_pool_c.specs.declared.results.Place.{Place}
 use Rattle.buffer_pool_c.specs.declared.results.Handle.{Handle}
@@ -23,59 +26,44 @@ memoryNumber Overflow = 1
 abbrev pub placeOf : range.Place → Place
 placeOf p = record { start = p .start; length = p .length; memory = memoryNumber (p .memory) }
 
-abbrev pub noPlace : Place
-noPlace = record { start = 0; length = 0; memory = 0 }
-
--- the place that an answer tells
-abbrev pub placeIn : Answer → Place
-placeIn Done = noPlace
-placeIn (Reserved p changes) = placeOf p
-placeIn (Framed p) = placeOf p
-placeIn (Taken h) = noPlace
-placeIn (Copied n) = noPlace
-placeIn (Refused number) = noPlace
-
--- the changes of mode that a reserve tells
-abbrev pub changesIn : Answer → ℕ
-changesIn Done = 0
-changesIn (Reserved p changes) = changes
-changesIn (Framed p) = 0
-changesIn (Taken h) = 0
-changesIn (Copied n) = 0
-changesIn (Refused number) = 0
-
-abbrev pub noHandle : Handle
-noHandle = record { start = 0; length = 0; serial = 0; slot = 0 }
-
 -- a handle as C has it
 abbrev pub handleOf : pool.Handle → Handle
 handleOf h = record { start = h .start; length = h .length; serial = h .serial; slot = h .slot }
 
--- the handle that a take tells
-abbrev pub handleIn : Answer → Handle
-handleIn Done = noHandle
-handleIn (Reserved p changes) = noHandle
-handleIn (Framed p) = noHandle
-handleIn (Taken h) = handleOf h
-handleIn (Copied n) = noHandle
-handleIn (Refused number) = noHandle
-
 -- what a reserve gives
 abbrev pub reserveResult : Answer → ReserveResult
-reserveResult a = record { place = placeIn a; changes = changesIn a; refusal = refusal a }
+reserveResult a = record { place = placeOf (values a .place); changes = values a .changes; refusal = values a .number }
 
 -- what a commit or a truncate gives
 abbrev pub placeResult : Answer → PlaceResult
-placeResult a = record { place = placeIn a; refusal = refusal a }
+placeResult a = record { place = placeOf (values a .place); refusal = values a .number }
 
 -- what a take gives
 abbrev pub takeResult : Answer → TakeResult
-takeResult a = record { handle = handleIn a; copied = copiedLength a; refusal = refusal a }
+takeResult a = record { handle = handleOf (values a .handle); copied = values a .length; refusal = values a .number }
+
+-- what new and a release give: the refusal alone
+abbrev pub refusalResult : Answer → ℕ
+refusalResult a = values a .number
 
 -- what a view gives
 abbrev pub viewResult : View → PlaceResult
 viewResult v = record { place = placeOf (v .place); refusal = v .number }
 
+-- what a view of a record gives that is no pool's: refused with 1
+abbrev pub unknownView : PlaceResult
+unknownView = viewResult (hidden 1)
+
 -- the pool's own handle
 abbrev pub named : Handle → pool.Handle
 named h = record { slot = h .slot; start = h .start; length = h .length; serial = h .serial }
+
+-- ---- What the code passes on to the pool. No exported call's contract speaks of it
+
+-- the slot in a byte, and 0 for one that has none. Neither that nor 0 is a slot (proofs/ResultLaws.antt, `no-slot`)
+abbrev pub slotByte : ℕ → ℕ
+slotByte slot = pick (ltb slot 256) slot 0
+
+-- the handle with its slot in a byte
+abbrev pub slotInByte : Handle → Handle
+slotInByte h = record { start = h .start; length = h .length; serial = h .serial; slot = slotByte (h .slot) }

@@ -4,6 +4,7 @@ ghost use mathlib.Core.List.{[]};
 ghost use Rattle.buffer_pool.specs.Moves.{memories};
 ghost use Rattle.buffer_pool_c.specs.Record.{known};
 ghost use Rattle.buffer_pool_c.specs.Exports as spec;
+use crate::record::LIVE_LIMIT;
 use crate::record::Record;
 use crate::record::pool_of;
 use crate::record::record_after;
@@ -13,6 +14,7 @@ use crate::results::PlaceResult;
 use crate::results::ReserveResult;
 use crate::results::TakeResult;
 use buffer_pool::buffer_pool::Answer;
+use buffer_pool::refusals;
 
 // A record and what a reserve gives.
 pub struct ReservedOn {
@@ -38,10 +40,13 @@ pub struct ReleasedOn {
     pub result: u8,
 }
 
-// Is the record's mode the number of one?
+// Can the record be a pool's: has its live word as many bits as there are slots, and is its mode the number of one?
 fn is_known(r: Record) -> bool
-    ensures { λ b. ⌜ b ≡ known (r .mode) ⌝ }
+    ensures { λ b. ⌜ b ≡ known r ⌝ }
 {
+    if r.live >= LIVE_LIMIT {
+        return false;
+    }
     r.mode <= 2
 }
 
@@ -52,7 +57,7 @@ pub(crate) fn reserve(r: Record, pool: &mut [u8], overflow: &mut [u8], len: u64)
     if !is_known(r) {
         return ReservedOn {
             held: r,
-            result: results::reserve_result(Answer::Refused(1)),
+            result: results::reserve_result(Answer::Refused(refusals::UNSOUND)),
         };
     }
     let called = pool_of(r).reserve(pool, overflow, len);
@@ -70,7 +75,7 @@ pub(crate) fn commit(r: Record, pool: &[u8], overflow: &[u8], n: u64) -> PlacedO
     if !is_known(r) {
         return PlacedOn {
             held: r,
-            result: results::place_result(Answer::Refused(1)),
+            result: results::place_result(Answer::Refused(refusals::UNSOUND)),
         };
     }
     let called = pool_of(r).commit(pool, overflow, n);
@@ -88,7 +93,7 @@ pub(crate) fn truncate(r: Record, pool: &[u8], overflow: &[u8], n: u64) -> Place
     if !is_known(r) {
         return PlacedOn {
             held: r,
-            result: results::place_result(Answer::Refused(1)),
+            result: results::place_result(Answer::Refused(refusals::UNSOUND)),
         };
     }
     let called = pool_of(r).truncate(pool, overflow, n);
@@ -106,7 +111,7 @@ pub(crate) fn take(r: Record, pool: &[u8], overflow: &mut [u8], destination: &mu
     if !is_known(r) {
         return TakenOn {
             held: r,
-            result: results::take_result(Answer::Refused(1)),
+            result: results::take_result(Answer::Refused(refusals::UNSOUND)),
         };
     }
     let called = pool_of(r).take(pool, overflow, destination);
@@ -124,14 +129,14 @@ pub(crate) fn release(r: Record, pool: &[u8], overflow: &[u8], h: Handle) -> Rel
     if !is_known(r) {
         return ReleasedOn {
             held: r,
-            result: results::refusal_of(Answer::Refused(1)),
+            result: refusals::UNSOUND,
         };
     }
     let called = pool_of(r).release(pool, overflow, results::named(h));
     let answer = called.answer;
     ReleasedOn {
         held: record_after(r, called.pool),
-        result: results::refusal_of(answer),
+        result: answer.refusal(),
     }
 }
 

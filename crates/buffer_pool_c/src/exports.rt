@@ -11,14 +11,13 @@ use crate::results::Handle;
 use crate::results::PlaceResult;
 use crate::results::ReserveResult;
 use crate::results::TakeResult;
-use crate::results::refusal_of;
 use buffer_pool::buffer_pool::BufferPool;
 
 // `buffer_pool_created`: the record of a new pool.
 #[repr(C)]
 pub struct NewResult {
     pub record: Record,
-    pub refusal: u8,
+    pub refusal: u64,
 }
 
 // A new pool: the pool memory is cleared. Refuses with 3.
@@ -30,7 +29,7 @@ pub extern "C" fn buffer_pool_new(pool: &mut [u8], overflow: &[u8]) -> NewResult
     let answer = called.answer;
     NewResult {
         record: record_of(no_front(), called.pool),
-        refusal: refusal_of(answer),
+        refusal: answer.refusal() as u64,
     }
 }
 

@@ -1,21 +1,24 @@
 // The record as C holds it, and the pool's own record in it.
 ghost use mathlib.Core.Path.{_≡_};
+ghost use Prim.Native.Nat.{_<_, _^_};
+ghost use Rattle.buffer_pool.specs.Record.{slotCount};
 ghost use Rattle.buffer_pool_c.specs.Record as spec;
 use buffer_pool::buffer_pool::BufferPool;
 use buffer_pool::buffer_pool::PoolFront;
 use buffer_pool::buffer_pool::PoolMode;
 
-// `buffer_pool_record`: the fields of the pool's record, its mode as a number and the front's three numbers beside it.
+// `buffer_pool_record`: the fields of the pool's record, its mode as a number and the front's three numbers beside it. It has no
+// padding: `given`, `live` and `mode` fill one word.
 #[repr(C)]
 pub struct Record {
     pub capacity: u64,
     pub overflow: u64,
-    pub starts: [u32; 8],
-    pub lengths: [u32; 8],
-    pub serials: [u32; 8],
+    pub starts: [u32; BufferPool::POOL_CAPACITY],
+    pub lengths: [u32; BufferPool::POOL_CAPACITY],
+    pub serials: [u32; BufferPool::POOL_CAPACITY],
     pub given: u32,
-    pub live: u8,
-    pub mode: u8,
+    pub live: u16,
+    pub mode: u16,
     pub back_start: usize,
     pub back_len: usize,
     pub used: usize,
@@ -29,8 +32,11 @@ pub struct Record {
     pub reserved: u64,
 }
 
+// A live word is below this, as it has a bit for each slot.
+pub(crate) const LIVE_LIMIT: u16 = 1 << BufferPool::POOL_CAPACITY;
+
 // The mode with this number; for a number that is none, the overflow.
-fn mode_of(number: u8, front: PoolFront) -> PoolMode
+fn mode_of(number: u16, front: PoolFront) -> PoolMode
     ensures { λ r. ⌜ r ≡ spec.modeOf number front ⌝ }
 {
     if number == 0 {
@@ -43,7 +49,7 @@ fn mode_of(number: u8, front: PoolFront) -> PoolMode
 }
 
 // The number of a mode.
-fn mode_number(mode: PoolMode) -> u8
+fn mode_number(mode: PoolMode) -> u16
     ensures { λ r. ⌜ r ≡ spec.modeNumber mode ⌝ }
 {
     match mode {
@@ -86,8 +92,9 @@ fn front_of(mode: PoolMode, before: PoolFront) -> PoolFront
     }
 }
 
-// The pool's record.
+// The pool's record, where the live word has as many bits as there are slots.
 pub(crate) fn pool_of(r: Record) -> BufferPool
+    requires { ⌜ r .live < 2 ^ slotCount ⌝ }
     ensures { λ p. ⌜ p ≡ spec.poolOf r ⌝ }
 {
     let starts = r.starts;
@@ -96,7 +103,7 @@ pub(crate) fn pool_of(r: Record) -> BufferPool
     BufferPool {
         capacity: r.capacity,
         overflow: r.overflow,
-        live: r.live,
+        live: r.live as u8,
         starts: starts,
         lengths: lengths,
         serials: serials,
@@ -129,7 +136,7 @@ pub(crate) fn record_of(before: PoolFront, p: BufferPool) -> Record
         lengths: lengths,
         serials: serials,
         given: p.given,
-        live: p.live,
+        live: p.live as u16,
         mode: mode_number(mode),
         back_start: p.back_start,
         back_len: p.back_len,

@@ -77,7 +77,7 @@ pub struct Port {
     destination: Box<[u8]>,
     kept: [Handle; SLOTS],
     /// All refusals, joined.
-    refusals: u8,
+    refusals: u64,
 }
 
 // SAFETY, for each call below: record, memories and destination are the pool's own, lie apart, and
@@ -168,7 +168,7 @@ impl Side for Port {
 
     fn release(&mut self, kept: Kept) {
         let (pool, overflow) = (&self.pool, &self.overflow);
-        self.refusals |= unsafe {
+        let refusal = unsafe {
             raw::buffer_pool_release(
                 &mut self.record,
                 pool.as_ptr(),
@@ -178,6 +178,7 @@ impl Side for Port {
                 self.kept[kept],
             )
         };
+        self.refusals |= u64::from(refusal);
     }
 
     fn frame(&mut self) -> usize {

@@ -100,7 +100,7 @@ pub struct Reserved<'p> {
     /// Where they lie.
     pub place: Place,
     /// How often the mode changed, at most twice.
-    pub changes: u32,
+    pub changes: u64,
 }
 
 /// What [`Pool::take`] gives.
@@ -258,7 +258,7 @@ impl<'m> Pool<'m> {
                 slice.handle,
             )
         };
-        Refusal::check(refusal).map_err(|refusal| (slice, refusal))
+        Refusal::check(refusal.into()).map_err(|refusal| (slice, refusal))
     }
 
     /// The bytes of the frame.

@@ -3,17 +3,19 @@
 //! Every call answers for every record, handle and length. What makes it unsafe is what no callee can
 //! test: each pointer must point to as many bytes as the length beside it says (a memory of length 0
 //! still has a pointer that is not null), and record, memories and destination must lie apart.
+//!
+//! No struct has padding: `as_bytes` gives the bytes of one, to be stored or compared.
 
 use core::mem::{offset_of, size_of};
 
 /// The numbers of [`Record::mode`]. Any other number is refused with 1.
-pub const BACK: u8 = 0;
-pub const FRONT: u8 = 1;
-pub const OVERFLOW: u8 = 2;
+pub const BACK: u16 = 0;
+pub const FRONT: u16 = 1;
+pub const OVERFLOW: u16 = 2;
 
 /// The numbers of [`Place::memory`].
-pub const POOL_MEMORY: u8 = 0;
-pub const OVERFLOW_MEMORY: u8 = 1;
+pub const POOL_MEMORY: u64 = 0;
+pub const OVERFLOW_MEMORY: u64 = 1;
 
 /// How many slices can live in a pool.
 pub const SLOTS: usize = 8;
@@ -34,9 +36,10 @@ pub struct Record {
     pub serials: [u32; SLOTS],
     /// Serials given.
     pub given: u32,
-    /// Slot `p`, of 1 to 8, is live if the bit 0x80 shifted right by `p - 1` is set.
-    pub live: u8,
-    pub mode: u8,
+    /// Slot `p`, of 1 to 8, is live if the bit 0x80 shifted right by `p - 1` is set. Any other bit is
+    /// refused with 1.
+    pub live: u16,
+    pub mode: u16,
     /// The back: the slots before it, and its own.
     pub back_start: usize,
     pub back_len: usize,
@@ -62,7 +65,7 @@ pub struct Record {
 pub struct Place {
     pub start: u64,
     pub length: u64,
-    pub memory: u8,
+    pub memory: u64,
 }
 
 /// Names a slice.
@@ -72,7 +75,7 @@ pub struct Handle {
     pub start: u32,
     pub length: u32,
     pub serial: u32,
-    pub slot: u8,
+    pub slot: u32,
 }
 
 /// What [`buffer_pool_reserve`] gives.
@@ -80,8 +83,8 @@ pub struct Handle {
 #[derive(Clone, Copy, Debug, Default, PartialEq, Eq)]
 pub struct Reserved {
     pub place: Place,
-    pub changes: u32,
-    pub refusal: u8,
+    pub changes: u64,
+    pub refusal: u64,
 }
 
 /// What commit, truncate and the views give.
@@ -89,7 +92,7 @@ pub struct Reserved {
 #[derive(Clone, Copy, Debug, Default, PartialEq, Eq)]
 pub struct Placed {
     pub place: Place,
-    pub refusal: u8,
+    pub refusal: u64,
 }
 
 /// What [`buffer_pool_take`] gives. Slot 0: `copied` bytes went to the destination.
@@ -98,7 +101,7 @@ pub struct Placed {
 pub struct Taken {
     pub handle: Handle,
     pub copied: u64,
-    pub refusal: u8,
+    pub refusal: u64,
 }
 
 /// What [`buffer_pool_new`] gives.
@@ -106,7 +109,7 @@ pub struct Taken {
 #[derive(Clone, Copy, Debug, Default, PartialEq, Eq)]
 pub struct Created {
     pub record: Record,
-    pub refusal: u8,
+    pub refusal: u64,
 }
 
 extern "C" {
@@ -189,30 +192,38 @@ extern "C" {
     ) -> Placed;
 }
 
-// The layout that c/buffer_pool.h has on x86-64.
-const _: () = {
-    assert!(size_of::<Record>() == 208);
-    assert!(offset_of!(Record, starts) == 16);
-    assert!(offset_of!(Record, lengths) == 48);
-    assert!(offset_of!(Record, serials) == 80);
-    assert!(offset_of!(Record, given) == 112);
-    assert!(offset_of!(Record, live) == 116);
-    assert!(offset_of!(Record, mode) == 117);
-    assert!(offset_of!(Record, back_start) == 120);
-    assert!(offset_of!(Record, back_len) == 128);
-    assert!(offset_of!(Record, used) == 136);
-    assert!(offset_of!(Record, raw_offset) == 144);
-    assert!(offset_of!(Record, raw_len) == 152);
-    assert!(offset_of!(Record, front_back_start) == 160);
-    assert!(offset_of!(Record, front_byte_capacity) == 168);
-    assert!(offset_of!(Record, front_len) == 176);
-    assert!(offset_of!(Record, kept) == 184);
-    assert!(offset_of!(Record, cursor) == 192);
-    assert!(offset_of!(Record, reserved) == 200);
-    assert!(size_of::<Place>() == 24 && offset_of!(Place, memory) == 16);
-    assert!(size_of::<Handle>() == 16 && offset_of!(Handle, slot) == 12);
-    assert!(size_of::<Reserved>() == 32 && offset_of!(Reserved, refusal) == 28);
-    assert!(size_of::<Placed>() == 32 && offset_of!(Placed, refusal) == 24);
-    assert!(size_of::<Taken>() == 32 && offset_of!(Taken, refusal) == 24);
-    assert!(size_of::<Created>() == 216 && offset_of!(Created, refusal) == 208);
-};
+/// The bytes of a field.
+const fn size_of_field<T, F>(_: fn(&T) -> &F) -> usize {
+    size_of::<F>()
+}
+
+/// The layout that c/buffer_pool.h has on x86-64: the offset of each field of a struct, and its size,
+/// which is the sum of the fields' sizes, so that there is no padding and the struct has bytes.
+macro_rules! layout {
+    ($type:ident, $size:literal: $($offset:literal $field:ident),+) => {
+        const _: () = {
+            $(assert!(offset_of!($type, $field) == $offset);)+
+            assert!(size_of::<$type>() == $size);
+            assert!(0 $(+ size_of_field(|all: &$type| &all.$field))+ == $size);
+        };
+
+        impl $type {
+            /// Its bytes, each of which belongs to a field.
+            pub fn as_bytes(&self) -> &[u8; $size] {
+                // SAFETY: the size is the array's, and no byte is padding.
+                unsafe { &*(self as *const $type).cast() }
+            }
+        }
+    };
+}
+
+layout!(Record, 208:
+    0 capacity, 8 overflow, 16 starts, 48 lengths, 80 serials, 112 given, 116 live, 118 mode,
+    120 back_start, 128 back_len, 136 used, 144 raw_offset, 152 raw_len, 160 front_back_start,
+    168 front_byte_capacity, 176 front_len, 184 kept, 192 cursor, 200 reserved);
+layout!(Place, 24: 0 start, 8 length, 16 memory);
+layout!(Handle, 16: 0 start, 4 length, 8 serial, 12 slot);
+layout!(Reserved, 40: 0 place, 24 changes, 32 refusal);
+layout!(Placed, 32: 0 place, 24 refusal);
+layout!(Taken, 32: 0 handle, 16 copied, 24 refusal);
+layout!(Created, 216: 0 record, 208 refusal);

@@ -2,7 +2,8 @@
 
 use core::fmt;
 
-/// Why a call was turned away. A refused call changes nothing. The numbers are document 01's.
+/// Why a call was turned away. A refused call changes nothing. The numbers are those of
+/// SPECIFICATION 3.3.
 #[derive(Clone, Copy, Debug, PartialEq, Eq)]
 #[repr(u8)]
 pub enum Refusal {
@@ -27,7 +28,7 @@ pub enum Refusal {
 }
 
 impl Refusal {
-    /// Document 01's number.
+    /// The number of SPECIFICATION 3.3.
     pub const fn number(self) -> u8 {
         self as u8
     }
@@ -48,8 +49,8 @@ impl Refusal {
     }
 
     /// `Ok` for 0, which says that a call was done. The calls give no number above 8.
-    pub(crate) fn check(number: u8) -> Result<(), Refusal> {
-        match Refusal::from_number(number) {
+    pub(crate) fn check(number: u64) -> Result<(), Refusal> {
+        match u8::try_from(number).ok().and_then(Refusal::from_number) {
             Some(refusal) => Err(refusal),
             None => {
                 debug_assert_eq!(number, 0);

@@ -1,4 +1,4 @@
-//! The wrapper, on the linked archive. Expected values are document 01's.
+//! The wrapper, on the linked archive. Expected values are those of docs/SPECIFICATION.md.
 
 use crate::{raw, Mode, Pool, Refusal, Slice, Taken};
 use std::string::ToString;
@@ -38,6 +38,17 @@ fn an_entry_is_written_taken_read_and_released() {
     assert_eq!(pool.slice(&slice).unwrap(), b"Page 8");
     assert!(pool.release(slice).is_ok());
     assert_eq!(pool.record().live, 0);
+}
+
+#[test]
+fn a_refused_call_leaves_every_byte_of_the_record() {
+    let (mut memory, mut overflow) = ([0; 16], [0; 20]);
+    let mut pool = Pool::new(&mut memory, &mut overflow).unwrap();
+    pool.reserve(6).unwrap();
+    let before = *pool.record().as_bytes();
+    assert_eq!(pool.commit(7), Err(Refusal::CommitTooLong));
+    assert_eq!(pool.reserve(21).unwrap_err(), Refusal::OverflowTooShort);
+    assert_eq!(pool.record().as_bytes(), &before);
 }
 
 #[test]

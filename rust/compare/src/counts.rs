@@ -32,12 +32,12 @@ impl Counts {
     }
 
     /// Counts a call of this kind.
-    pub fn call(&mut self, kind: usize, refusal: u8) {
-        self.calls[kind][usize::from(refusal)] += 1;
+    pub fn call(&mut self, kind: usize, refusal: u64) {
+        self.calls[kind][refusal as usize] += 1;
     }
 
     /// Counts an event of a list.
-    pub fn event(&mut self, event: &Event, refusal: u8) {
+    pub fn event(&mut self, event: &Event, refusal: u64) {
         let kind = match event {
             Event::Reserve(_) => 0,
             Event::Commit(_) => 1,

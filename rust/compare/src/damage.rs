@@ -4,16 +4,21 @@
 
 use crate::counts::Counts;
 use crate::exhaustive;
+use crate::given::Given;
 use crate::memory::Memory;
-use crate::model::{self, Call, Outcome};
+use crate::model::{self, Call};
 use crate::port::Port;
 use crate::shrink::Disagreement;
 use crate::state::State;
-use buffer_pool::raw::{Handle, Record, BYTE_LIMIT, SLOTS};
+use buffer_pool::raw::{Created, Handle, Record, BYTE_LIMIT, SLOTS};
 use oracle::random::Random;
 
 /// The fields of a record, as `set` numbers them: 16 of their own, then three arrays.
 const FIELDS: usize = 16 + 3 * SLOTS;
+
+/// The fields of 16 bits, of which the pool reads one byte.
+const LIVE: usize = 3;
+const MODE: usize = 4;
 
 /// The longest memory that is lent to fit a damaged length.
 const LENT: u64 = 4096;
@@ -24,8 +29,8 @@ fn set(r: &mut Record, field: usize, value: u64) {
         0 => r.capacity = value,
         1 => r.overflow = value,
         2 => r.given = value as u32,
-        3 => r.live = value as u8,
-        4 => r.mode = value as u8,
+        LIVE => r.live = value as u16,
+        MODE => r.mode = value as u16,
         5 => r.back_start = value as usize,
         6 => r.back_len = value as usize,
         7 => r.used = value as usize,
@@ -51,8 +56,8 @@ fn get(r: &Record, field: usize) -> u64 {
         0 => r.capacity,
         1 => r.overflow,
         2 => r.given.into(),
-        3 => r.live.into(),
-        4 => r.mode.into(),
+        LIVE => r.live.into(),
+        MODE => r.mode.into(),
         5 => r.back_start as u64,
         6 => r.back_len as u64,
         7 => r.used as u64,
@@ -76,7 +81,7 @@ fn edges(r: &Record, value: u64) -> Vec<u64> {
         .into_iter()
         .flat_map(near)
         .collect();
-    edges.extend([0, 1, 2, 0x7f, 0x80, 0xff, u64::from(u32::MAX)]);
+    edges.extend([0, 1, 2, 0x7f, 0x80, 0xff, 0x100, 0xffff, u64::from(u32::MAX)]);
     edges.extend([1 << 31, 1 << 32, (1 << 32) + 1, 1 << 63, u64::MAX - 1, u64::MAX]);
     edges
 }
@@ -113,16 +118,18 @@ fn calls(r: &Record, random: &mut Random) -> [Call; 8] {
 fn handle(r: &Record, random: &mut Random) -> Handle {
     let at = random.below(SLOTS as u64) as usize;
     let (start, length, serial) = (r.starts[at], r.lengths[at], r.serials[at]);
-    let h = Handle { start, length, serial, slot: at as u8 + 1 };
+    let h = Handle { start, length, serial, slot: at as u32 + 1 };
     let other = |n: u32, random: &mut Random| {
         random.pick(&[n.wrapping_add(1), n.wrapping_sub(1), n ^ 1 << 31, 0, u32::MAX])
     };
-    let slot = random.pick(&[0, 1, 8, 9, 255, h.slot.wrapping_add(1), h.slot ^ 0x10]);
-    match random.below(7) {
+    let near = random.pick(&[0, 1, 8, 9, 255, 256, h.slot + 1, h.slot ^ 0x10]);
+    let wide = random.pick(&[h.slot | 0x100, h.slot << 8, h.slot | 1 << 16, h.slot | 1 << 31, !0]);
+    match random.below(8) {
         0 => Handle { start: other(start, random), ..h },
         1 => Handle { length: other(length, random), ..h },
         2 => Handle { serial: other(serial, random), ..h },
-        3 => Handle { slot, ..h },
+        3 => Handle { slot: near, ..h },
+        4 => Handle { slot: wide, ..h },
         _ => h,
     }
 }
@@ -134,11 +141,11 @@ fn check(state: &State, call: &Call, counts: &mut Counts) -> Result<(), Disagree
     let (mut after, mut destination) = (state.clone(), lent.clone());
     let got = model::call(&mut after, call, &mut destination);
     let due = model::refusal(state, call);
-    let verdict = match call {
-        Call::Reserve(len) if due == 0 => {
-            let kept = got.refusal == 0 || after == *state;
+    let verdict = match (call, &got) {
+        (Call::Reserve(len), Given::Reserved(given)) if due == 0 => {
+            let kept = given.refusal == 0 || after == *state;
             let kept = if kept { Ok(()) } else { Err("a refused reserve changes something") };
-            kept.and_then(|()| model::reserve(state, *len, &after, &got))
+            kept.and_then(|()| model::reserve(state, *len, &after, given))
         }
         _ => as_due(state, call, due, (&got, &after), (&lent, &destination)),
     };
@@ -152,7 +159,7 @@ fn check(state: &State, call: &Call, counts: &mut Counts) -> Result<(), Disagree
             state.record, after.record
         ))
     })?;
-    counts.call(call.kind(), got.refusal);
+    counts.call(call.kind(), got.refusal());
     Ok(())
 }
 
@@ -161,30 +168,24 @@ fn as_due(
     state: &State,
     call: &Call,
     due: u8,
-    (got, after): (&Outcome, &State),
+    (got, after): (&Given, &State),
     (lent, destination): (&Memory, &Memory),
 ) -> Result<(), &'static str> {
-    let mut expected = state.clone();
-    let outcome = match due {
-        0 => model::perform(&mut expected, call),
-        refusal => Outcome::refused(refusal),
+    let (mut expected, mut filled) = (state.clone(), lent.clone());
+    let given = match due {
+        0 => model::perform(&mut expected, call, &mut filled),
+        refusal => call.refused(refusal),
     };
-    if *got != outcome {
-        return Err("the answer");
+    if *got != given {
+        return Err("a byte of the answer");
     }
-    let copied = outcome.copied.len();
-    if destination.bytes()[copied..] != lent.bytes()[copied..] {
-        return Err("a destination byte past the copied frame");
+    if *destination != filled {
+        return Err("a byte of the destination");
     }
-    let same = match due {
-        0 => model::read_of(after) == model::read_of(&expected),
-        _ => *after == expected,
-    };
-    if same {
-        Ok(())
-    } else {
-        Err("what it leaves")
+    if *after != expected {
+        return Err("a byte of what it leaves");
     }
+    Ok(())
 }
 
 /// Lends memories of the damaged lengths, where these are not too long.
@@ -236,16 +237,15 @@ pub fn reached(
     Ok(())
 }
 
-/// Every field of some states set to each edge, and every number as a mode, with each kind of call.
+/// Every field of some states set to each edge, live word and mode also to others, with each kind of
+/// call.
 pub fn every_field(random: &mut Random, counts: &mut Counts) -> Result<(), Disagreement> {
     for state in ready_states()? {
         for field in 0..FIELDS {
-            let mode = field == 4;
-            let values = if mode {
-                (0..256).collect()
-            } else {
-                edges(&state.record, get(&state.record, field))
-            };
+            let mut values = edges(&state.record, get(&state.record, field));
+            if field == LIVE || field == MODE {
+                values.extend(bytes_beside(get(&state.record, field)));
+            }
             for value in values {
                 let mut damaged = state.clone();
                 set(&mut damaged.record, field, value);
@@ -260,6 +260,11 @@ pub fn every_field(random: &mut Random, counts: &mut Counts) -> Result<(), Disag
         }
     }
     Ok(())
+}
+
+/// Every number of one byte, and the number with every other high byte.
+fn bytes_beside(number: u64) -> impl Iterator<Item = u64> {
+    (0..256).chain((1..256).map(move |high| high << 8 | number))
 }
 
 /// The pools made ready for the exhaustive lists.
@@ -307,7 +312,7 @@ pub fn by_hand(
 
 /// A record whose live slices rise, with its other numbers mostly as the mode asks.
 fn made(random: &mut Random) -> Record {
-    let mut r = Record { mode: random.below(3) as u8, ..Record::default() };
+    let mut r = Record { mode: random.below(3) as u16, ..Record::default() };
     (r.capacity, r.overflow) = (random.within(1, 24), random.below(24));
     r.back_start = random.below(SLOTS as u64) as usize;
     r.back_len = random.below((SLOTS - r.back_start) as u64 + 1) as usize;
@@ -390,19 +395,17 @@ pub fn new_pools() -> Result<u64, Disagreement> {
     for capacity in lengths {
         for overflow in lengths {
             let (pool, other) = (Memory::marked(capacity, 1), Memory::marked(overflow, 0x81));
-            let (state, refusal) = State::new(pool.clone(), other.clone());
-            let refused = capacity.max(overflow) > limit;
-            let lengths = (capacity as u64, overflow as u64);
-            let record = Record { capacity: lengths.0, overflow: lengths.1, ..Record::default() };
-            let right = match refused {
-                true => refusal == 3 && state.record == Record::default() && state.pool == pool,
-                false => {
-                    let cleared = Memory::new(&vec![0; capacity]);
-                    refusal == 0 && state.record == record && state.pool == cleared
-                }
+            let (state, created) = State::new(pool.clone(), other.clone());
+            let (due, left) = match capacity.max(overflow) > limit {
+                true => (Created { refusal: 3, ..Created::default() }, pool),
+                false => (
+                    Created { record: model::new_record(capacity, overflow), refusal: 0 },
+                    Memory::new(&vec![0; capacity]),
+                ),
             };
-            if !right || state.overflow != other {
-                let cause = format!("new with {capacity} and {overflow} bytes gives {refusal}");
+            let given = created.as_bytes() == due.as_bytes();
+            if !given || state.pool != left || state.overflow != other {
+                let cause = format!("new with {capacity} and {overflow} bytes gives {created:?}");
                 return Err(Disagreement::OnDamaged(cause));
             }
             calls += 1;

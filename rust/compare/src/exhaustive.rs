@@ -13,8 +13,8 @@ use oracle::text;
 /// The longest memories of the small sizes.
 const SMALL: u32 = 6;
 
-/// Pools made ready. `OCTET` stands for document 01's eight slices of 2 bytes, `EIGHT` and `SEVEN`
-/// for so many slices of 1 byte.
+/// Pools made ready. `OCTET` stands for the eight slices of 2 bytes of SPECIFICATION 11, `EIGHT` and
+/// `SEVEN` for so many slices of 1 byte.
 const READY: &[&str] = &[
     // All slots used; one left.
     "pool 17 overflow 20; OCTET",

@@ -8,7 +8,8 @@ use oracle::calls::{self, List};
 use oracle::generate::{lengths, Author};
 use oracle::random::Random;
 
-/// The fixed lists: document 01's cases, memories at the byte limit, and every class three times.
+/// The fixed lists: the cases of SPECIFICATION 11, memories at the byte limit, and every class three
+/// times.
 const FIXED: [&[u8]; 3] = [
     include_bytes!("../../../oracle/lists/cases.calls"),
     include_bytes!("../../../oracle/lists/limits.calls"),

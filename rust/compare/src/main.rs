@@ -4,6 +4,7 @@
 mod counts;
 mod damage;
 mod exhaustive;
+mod given;
 mod lists;
 mod memory;
 mod model;
@@ -11,6 +12,7 @@ mod pair;
 mod port;
 mod shrink;
 mod sound;
+mod stack;
 mod state;
 
 use counts::Counts;

@@ -1,11 +1,12 @@
-//! What document 01 says of one call on any record, written from its text and not from the port:
-//! the refusal and, for every call but a reserve, the whole outcome. Of a reserve that is done it
-//! says what must hold; where it places is compared with the Rust.
+//! What SPECIFICATION 7 says of one call on any record, written from the text and not from the
+//! port: the refusal and, for every call but a reserve, the whole outcome. Of a reserve that is done
+//! it says what must hold; where it places is compared with the Rust.
 
+use crate::given::Given;
 use crate::memory::Memory;
 use crate::sound::{live, sound};
 use crate::state::State;
-use buffer_pool::raw::{self, Handle, Place, Record, SLOTS};
+use buffer_pool::raw::{self, Handle, Place, Placed, Record, Reserved, Taken, SLOTS};
 
 /// A call, or a view.
 #[derive(Clone, Copy, Debug)]
@@ -35,27 +36,29 @@ impl Call {
             Call::Slice(_) => 7,
         }
     }
+
+    /// What the call gives where it is refused: every number but the refusal is 0.
+    pub fn refused(&self, refusal: u8) -> Given {
+        let number = refusal.into();
+        match self {
+            Call::Reserve(_) => {
+                Given::Reserved(Reserved { refusal: number, ..Reserved::default() })
+            }
+            Call::Take(_) => Given::Taken(Taken { refusal: number, ..Taken::default() }),
+            Call::Release(_) => Given::Released(refusal),
+            _ => Given::Placed(Placed { refusal: number, ..Placed::default() }),
+        }
+    }
 }
 
-/// What a call gives, in one form for all of them. What a call does not give is 0.
-#[derive(Clone, Debug, Default, PartialEq)]
-pub struct Outcome {
-    pub refusal: u8,
-    pub place: Place,
-    pub changes: u32,
-    pub handle: Handle,
-    /// The frame that a take copied.
-    pub copied: Vec<u8>,
+/// A place that is given.
+fn placed(place: Place) -> Given {
+    Given::Placed(Placed { place, refusal: 0 })
 }
 
-impl Outcome {
-    pub fn refused(refusal: u8) -> Outcome {
-        Outcome { refusal, ..Outcome::default() }
-    }
-
-    pub fn placed(place: Place) -> Outcome {
-        Outcome { place, ..Outcome::default() }
-    }
+/// The record of a new pool with memories of these lengths.
+pub fn new_record(capacity: usize, overflow: usize) -> Record {
+    Record { capacity: capacity as u64, overflow: overflow as u64, ..Record::default() }
 }
 
 /// The frame's place.
@@ -75,7 +78,7 @@ fn reservation(r: &Record) -> Place {
 /// Whether a handle names a live slice: its slot is one of 1 to 8 and live, and start, length and
 /// serial are that slot's.
 fn names_live(r: &Record, h: &Handle) -> bool {
-    let at = usize::from(h.slot).wrapping_sub(1);
+    let at = (h.slot as usize).wrapping_sub(1);
     at < SLOTS
         && r.live & (0x80 >> at) != 0
         && (r.starts[at], r.lengths[at], r.serials[at]) == (h.start, h.length, h.serial)
@@ -100,25 +103,25 @@ pub fn refusal(state: &State, call: &Call) -> u8 {
     }
 }
 
-/// The outcome of a call that is not refused and no reserve; the state becomes what it leaves.
-pub fn perform(state: &mut State, call: &Call) -> Outcome {
+/// What a call gives that is not refused and no reserve; state and destination become what it leaves.
+pub fn perform(state: &mut State, call: &Call, destination: &mut Memory) -> Given {
     let r = &mut state.record;
     match *call {
         Call::Commit(n) => resize(r, frame(r).length + n),
         Call::Truncate(n) => resize(r, frame(r).length.min(n)),
-        Call::Take(_) => return take(state),
+        Call::Take(_) => return Given::Taken(take(state, destination)),
         Call::Release(h) => {
             r.live &= !(0x80 >> (h.slot - 1));
-            return Outcome::default();
+            return Given::Released(0);
         }
-        Call::Reservation => return Outcome::placed(reservation(r)),
+        Call::Reservation => return placed(reservation(r)),
         Call::Slice(h) => {
             let (start, length) = (h.start.into(), h.length.into());
-            return Outcome::placed(Place { start, length, memory: raw::POOL_MEMORY });
+            return placed(Place { start, length, memory: raw::POOL_MEMORY });
         }
         Call::Frame | Call::Reserve(_) => {}
     }
-    Outcome::placed(frame(r))
+    placed(frame(r))
 }
 
 /// The frame has this length, and the reservation is spent.
@@ -131,19 +134,19 @@ fn resize(r: &mut Record, length: u64) {
 }
 
 /// A take. From the overflow the frame is copied, and the bytes after it move down to 0.
-fn take(state: &mut State) -> Outcome {
+fn take(state: &mut State, destination: &mut Memory) -> Taken {
     let r = &mut state.record;
     let Place { start, length, memory } = frame(r);
     r.reserved = 0;
     if length == 0 {
-        return Outcome::default();
+        return Taken::default();
     }
     if memory == raw::OVERFLOW_MEMORY {
         let (n, kept) = (length as usize, r.kept as usize);
-        let copied = state.overflow.bytes()[..n].to_vec();
+        destination.bytes_mut()[..n].copy_from_slice(&state.overflow.bytes()[..n]);
         state.overflow.bytes_mut().copy_within(n..kept, 0);
         (r.kept, r.cursor) = (r.kept - length, 0);
-        return Outcome { copied, ..Outcome::default() };
+        return Taken { copied: length, ..Taken::default() };
     }
     let at = r.used;
     r.given += 1;
@@ -156,19 +159,24 @@ fn take(state: &mut State) -> Outcome {
     }
     (r.raw_offset, r.raw_len) = (start + length, 0);
     let (start, length, serial) = (start as u32, length as u32, r.given);
-    Outcome { handle: Handle { start, length, serial, slot: at as u8 + 1 }, ..Outcome::default() }
+    Taken { handle: Handle { start, length, serial, slot: at as u32 + 1 }, ..Taken::default() }
 }
 
 /// What must hold of a reserve on a passing record with memories of its lengths: refused with 4 only
 /// if frame and reservation exceed the overflow, and then nothing changes; else a passing record with
 /// the same live slices, handles and serials, their bytes and the frame's bytes as they were, and a
 /// reservation of this length at the frame's end, after at most two changes.
-pub fn reserve(before: &State, len: u64, after: &State, got: &Outcome) -> Result<(), &'static str> {
+pub fn reserve(
+    before: &State,
+    len: u64,
+    after: &State,
+    got: &Reserved,
+) -> Result<(), &'static str> {
     let (old, new) = (&before.record, &after.record);
     let needed = u128::from(frame(old).length) + u128::from(len);
     if got.refusal != 0 {
         return holds(&[
-            (got.refusal == 4, "a reserve is refused with another number than 4"),
+            (*got == Reserved { refusal: 4, ..Reserved::default() }, "a refused reserve's answer"),
             (needed > u128::from(old.overflow), "4, and the overflow is long enough"),
         ]);
     }
@@ -200,36 +208,16 @@ fn holds(conditions: &[(bool, &'static str)]) -> Result<(), &'static str> {
     conditions.iter().find(|(holds, _)| !holds).map_or(Ok(()), |(_, name)| Err(name))
 }
 
-/// The state with the front's numbers at 0 where the mode is not the front, as nothing reads them.
-pub fn read_of(state: &State) -> State {
-    let mut state = state.clone();
-    if state.record.mode != raw::FRONT {
-        let r = &mut state.record;
-        (r.front_back_start, r.front_byte_capacity, r.front_len) = (0, 0, 0);
+/// Does a call on the archive.
+pub fn call(state: &mut State, call: &Call, destination: &mut Memory) -> Given {
+    match *call {
+        Call::Reserve(len) => Given::Reserved(state.reserve(len)),
+        Call::Take(_) => Given::Taken(state.take(destination)),
+        Call::Release(h) => Given::Released(state.release(h)),
+        Call::Commit(n) => Given::Placed(state.commit(n)),
+        Call::Truncate(n) => Given::Placed(state.truncate(n)),
+        Call::Frame => Given::Placed(state.frame()),
+        Call::Reservation => Given::Placed(state.reservation()),
+        Call::Slice(h) => Given::Placed(state.slice(h)),
     }
-    state
-}
-
-/// Does a call on the archive. A take's destination is given as it is afterwards.
-pub fn call(state: &mut State, call: &Call, destination: &mut Memory) -> Outcome {
-    let placed = match *call {
-        Call::Reserve(len) => {
-            let got = state.reserve(len);
-            let (refusal, place, changes) = (got.refusal, got.place, got.changes);
-            return Outcome { refusal, place, changes, ..Outcome::default() };
-        }
-        Call::Take(_) => {
-            let got = state.take(destination);
-            let (refusal, handle) = (got.refusal, got.handle);
-            let copied = destination.part(0, got.copied).expect("a copy inside the destination");
-            return Outcome { refusal, handle, copied: copied.to_vec(), ..Outcome::default() };
-        }
-        Call::Release(h) => return Outcome::refused(state.release(h)),
-        Call::Commit(n) => state.commit(n),
-        Call::Truncate(n) => state.truncate(n),
-        Call::Frame => state.frame(),
-        Call::Reservation => state.reservation(),
-        Call::Slice(h) => state.slice(h),
-    };
-    Outcome { refusal: placed.refusal, ..Outcome::placed(placed.place) }
 }

@@ -1,8 +1,9 @@
 //! The Rust and the port side by side: the same events, and everything compared after each.
 
 use crate::counts::Counts;
+use crate::given::Given;
 use crate::port::Port;
-use buffer_pool::raw::{self, Placed, Record};
+use buffer_pool::raw::{self, Handle, Place, Placed, Record, Reserved, Taken};
 use oracle::calls::{Event, List, View};
 use oracle::classes::classes;
 use oracle::judge::{Answer, Judge};
@@ -32,10 +33,11 @@ impl Pair {
     pub fn apply(&mut self, event: &Event, counts: &mut Counts) -> Result<Answer, String> {
         let before = self.judge.situation();
         let rust = self.judge.apply(event);
-        let port = self.port.apply(event)?;
-        same("the answer", &rust, &port)?;
+        let (given, copied) = self.port.apply(event)?;
+        same("the answer", &self.due(event, &rust), &given)?;
+        same("the copied frame", &rust.copied, &copied)?;
         self.compare()?;
-        counts.event(event, rust.refusal);
+        counts.event(event, rust.refusal.into());
         counts.views += 2 + u64::from(self.port.state.record.live.count_ones());
         counts.tally.add(&classes(&before, event, &rust, &self.judge));
         Ok(rust)
@@ -44,7 +46,61 @@ impl Pair {
     /// Writes a byte on both sides. What it leaves is compared after the next call.
     pub fn write(&mut self, write: &Event, counts: &mut Counts) -> Result<(), String> {
         counts.event(write, 0);
-        same("a write", &self.judge.apply(write), &self.port.apply(write)?)
+        let rust = self.judge.apply(write);
+        same("a write", &self.due(write, &rust), &self.port.apply(write)?.0)
+    }
+
+    /// What the archive has to give where the Rust, which has had the event, answers this.
+    fn due(&self, event: &Event, rust: &Answer) -> Given {
+        let refusal = rust.refusal.into();
+        let place = match refusal {
+            0 => self.place(View::Frame, rust.start, rust.len),
+            _ => Place::default(),
+        };
+        match *event {
+            Event::Reserve(_) => {
+                Given::Reserved(Reserved { place, changes: rust.changes.into(), refusal })
+            }
+            Event::Commit(_) | Event::Truncate(_) => Given::Placed(Placed { place, refusal }),
+            Event::Take(_) => {
+                let (handle, copied) = (self.handle_due(rust), rust.copied.len() as u64);
+                Given::Taken(Taken { handle, copied, refusal })
+            }
+            Event::Release(_) => Given::Released(rust.refusal),
+            Event::Write { view, .. } => Given::Placed(self.view_due(view)),
+        }
+    }
+
+    /// A place in the memory where this view lies.
+    fn place(&self, view: View, start: usize, length: usize) -> Place {
+        let in_overflow = self.judge.situation().record.mode == Mode::Overflow;
+        let memory = match view {
+            View::Frame | View::Reservation if in_overflow => raw::OVERFLOW_MEMORY,
+            _ => raw::POOL_MEMORY,
+        };
+        Place { start: start as u64, length: length as u64, memory }
+    }
+
+    /// The handle that a take has to give: that of the slice last taken, or none if the take was
+    /// refused, copied the frame, or found it empty.
+    fn handle_due(&self, rust: &Answer) -> Handle {
+        if rust.refusal != 0 || rust.len == 0 || !rust.copied.is_empty() {
+            return Handle::default();
+        }
+        let serial = self.judge.serials();
+        let taken = |&p: &usize| self.judge.slice_place(p).is_some_and(|(of, ..)| of == serial);
+        let slot = (1..=SLOTS).find(taken).expect("a slot of the slice") as u32;
+        Handle { start: rust.start as u32, length: rust.len as u32, serial, slot }
+    }
+
+    /// What the archive has to give for a view: 7 for a slice that is not live, which is the one
+    /// without a byte.
+    fn view_due(&self, view: View) -> Placed {
+        let (start, length) = self.judge.view_place(view);
+        match view {
+            View::Slice(_) if length == 0 => Placed { refusal: 7, ..Placed::default() },
+            _ => Placed { place: self.place(view, start, length), refusal: 0 },
+        }
     }
 
     /// Every number and byte that can be seen on both sides is the same.
@@ -52,6 +108,7 @@ impl Pair {
         let at = self.judge.situation();
         let record = &self.port.state.record;
         same("the record", &at.record, &numbers(record))?;
+        same("the live word", &u16::from(at.record.live), &record.live)?;
         same("the reservation's length", &(at.reserved as u64), &record.reserved)?;
         same("serials given", &self.judge.serials(), &record.given)?;
         same("the pool memory", &self.judge.pool_bytes(), &self.port.state.pool.bytes())?;
@@ -59,7 +116,7 @@ impl Pair {
         self.compare_view("the reservation", View::Reservation, self.judge.reservation())?;
         for (slot, bytes) in self.judge.slices() {
             let (serial, ..) = self.judge.slice_place(slot).expect("a live slot");
-            same("the slot", &slot, &usize::from(self.port.handle(serial).slot))?;
+            same("the slot", &slot, &(self.port.handle(serial).slot as usize))?;
             self.compare_view("a slice", View::Slice(serial), bytes)?;
         }
         Ok(())
@@ -67,21 +124,14 @@ impl Pair {
 
     /// The archive gives a view where the Rust has it, with these bytes.
     fn compare_view(&self, what: &str, view: View, bytes: &[u8]) -> Result<(), String> {
-        let Placed { place, refusal } = self.port.view(view);
-        let in_overflow = self.judge.situation().record.mode == Mode::Overflow;
-        let memory = match view {
-            View::Frame | View::Reservation if in_overflow => raw::OVERFLOW_MEMORY,
-            _ => raw::POOL_MEMORY,
-        };
-        let (start, length) = self.judge.view_place(view);
-        let rust = (0, raw::Place { start: start as u64, length: length as u64, memory });
-        same(what, &rust, &(refusal, place))?;
-        same(what, &Some(bytes), &self.port.state.part(place))
+        let viewed = self.port.view(view);
+        same(what, &Given::Placed(self.view_due(view)), &Given::Placed(viewed))?;
+        same(what, &Some(bytes), &self.port.state.part(viewed.place))
     }
 }
 
-/// The archive's record as the Rust's numbers. A mode that is none has no such numbers and is taken
-/// as a front without slots, which the Rust never has.
+/// The archive's record as the Rust's numbers, with the low byte of the live word. A mode that is
+/// none has no such numbers and is taken as a front without slots, which the Rust never has.
 fn numbers(record: &Record) -> record::Record {
     let mode = match record.mode {
         raw::BACK => Mode::Back,
@@ -96,7 +146,7 @@ fn numbers(record: &Record) -> record::Record {
     let slot = |at: usize| (record.starts[at] as usize, record.lengths[at] as usize);
     record::Record {
         mode,
-        live: record.live,
+        live: record.live as u8,
         back_start: record.back_start,
         back_count: record.back_len,
         frame_start: record.raw_offset as usize,

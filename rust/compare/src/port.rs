@@ -1,11 +1,11 @@
-//! A list's events on the archive, with answers in the judge's form. What a call may not touch is
-//! compared with what it held before.
+//! A list's events on the archive. What a call may not touch is compared with what it held before.
 
+use crate::given::Given;
 use crate::memory::Memory;
+use crate::model::new_record;
 use crate::state::State;
-use buffer_pool::raw::{self, Handle, Place, Placed};
+use buffer_pool::raw::{self, Created, Handle, Placed};
 use oracle::calls::{Event, View};
-use oracle::judge::Answer;
 
 /// What a destination holds before a take.
 const DESTINATION: u8 = 0xd0;
@@ -22,11 +22,12 @@ pub struct Port {
 impl Port {
     /// A new pool. The overflow's bytes are not zeros, as firmware lends it as found.
     pub fn new(capacity: u32, overflow: u32) -> Result<Port, String> {
+        let record = new_record(capacity as usize, overflow as usize);
         let pool = Memory::marked(capacity as usize, 1);
         let overflow = Memory::marked(overflow as usize, 0x81);
-        let (state, refusal) = State::new(pool, overflow.clone());
-        if refusal != 0 {
-            return Err(format!("new is refused with {refusal}"));
+        let (state, created) = State::new(pool, overflow.clone());
+        if created.as_bytes() != (Created { record, refusal: 0 }).as_bytes() {
+            return Err(format!("new gives {created:?}"));
         }
         if state.pool.bytes().iter().any(|&byte| byte != 0) || state.overflow != overflow {
             return Err("new leaves other bytes than zeros and the overflow's own".into());
@@ -43,32 +44,28 @@ impl Port {
         }
     }
 
-    /// Does one event and gives its answer, or says what it should not have done.
-    pub fn apply(&mut self, event: &Event) -> Result<Answer, String> {
+    /// Does one event and gives what the archive gives, with the bytes that a take copied; or says
+    /// what it should not have done.
+    pub fn apply(&mut self, event: &Event) -> Result<(Given, Vec<u8>), String> {
         self.before.copy_from(&self.state);
-        let answer = match *event {
-            Event::Reserve(len) => self.reserve(len),
-            Event::Commit(len) => placed(self.state.commit(len)),
-            Event::Take(destination) => self.take(destination),
-            Event::Truncate(len) => placed(self.state.truncate(len)),
-            Event::Release(serial) => self.release(serial),
-            Event::Write { view, index, value } => return self.write(view, index, value),
-        }?;
-        self.check_untouched(event, answer.refusal)?;
-        Ok(answer)
-    }
-
-    fn reserve(&mut self, len: u64) -> Result<Answer, String> {
-        let reserved = self.state.reserve(len);
-        let answer = placed(Placed { place: reserved.place, refusal: reserved.refusal })?;
-        if reserved.refusal != 0 && reserved.changes != 0 {
-            return Err("a refused reserve gives changes".into());
-        }
-        Ok(Answer { changes: reserved.changes, ..answer })
+        let (given, copied) = match *event {
+            Event::Reserve(len) => (Given::Reserved(self.state.reserve(len)), Vec::new()),
+            Event::Commit(len) => (Given::Placed(self.state.commit(len)), Vec::new()),
+            Event::Take(destination) => self.take(destination)?,
+            Event::Truncate(len) => (Given::Placed(self.state.truncate(len)), Vec::new()),
+            Event::Release(serial) => {
+                (Given::Released(self.state.release(self.handle(serial))), Vec::new())
+            }
+            Event::Write { view, index, value } => {
+                return Ok((Given::Placed(self.write(view, index, value)?), Vec::new()))
+            }
+        };
+        self.check_untouched(event, given.refusal())?;
+        Ok((given, copied))
     }
 
     /// The destination has a few bytes more than the overflow if more are asked for.
-    fn take(&mut self, destination: u64) -> Result<Answer, String> {
+    fn take(&mut self, destination: u64) -> Result<(Given, Vec<u8>), String> {
         let len = destination.min(self.state.overflow.len() as u64 + 3) as usize;
         let before = Memory::marked(len, DESTINATION);
         let mut destination = before.clone();
@@ -78,33 +75,10 @@ impl Port {
         if destination.bytes()[copied..] != before.bytes()[copied..] || !destination.intact() {
             return Err("a destination byte past the frame is changed".into());
         }
-        let Handle { start, length, serial, slot } = taken.handle;
-        let numbers = (start, length, serial, taken.copied);
-        match (taken.refusal, slot) {
-            (0, 0) if (start, length, serial) == (0, 0, 0) => Ok(Answer {
-                len: copied,
-                copied: destination.bytes()[..copied].to_vec(),
-                ..Answer::default()
-            }),
-            (0, 1..=8) if copied == 0 && serial as usize == self.handles.len() + 1 => {
-                self.handles.push(taken.handle);
-                Ok(Answer { start: start as usize, len: length as usize, ..Answer::default() })
-            }
-            (refusal, 0) if numbers == (0, 0, 0, 0) => Ok(Answer { refusal, ..Answer::default() }),
-            _ => Err(format!("a take gives {taken:?}")),
+        if taken.handle.slot != 0 {
+            self.handles.push(taken.handle);
         }
-    }
-
-    fn release(&mut self, serial: u32) -> Result<Answer, String> {
-        let handle = self.handle(serial);
-        Ok(match self.state.release(handle) {
-            0 => Answer {
-                start: handle.start as usize,
-                len: handle.length as usize,
-                ..Answer::default()
-            },
-            refusal => Answer { refusal, ..Answer::default() },
-        })
+        Ok((Given::Taken(taken), destination.bytes()[..copied].to_vec()))
     }
 
     /// The handle that was given with this serial; else one that differs from a slot's entry by
@@ -117,21 +91,18 @@ impl Port {
             start: record.starts[at],
             length: record.lengths[at],
             serial,
-            slot: at as u8 + 1,
+            slot: at as u32 + 1,
         })
     }
 
     /// Writes one byte through a view, if it reaches that far, and gives the view's place.
-    fn write(&mut self, view: View, index: u64, value: u8) -> Result<Answer, String> {
+    fn write(&mut self, view: View, index: u64, value: u8) -> Result<Placed, String> {
         let viewed = self.view(view);
-        if viewed.refusal != 0 && !matches!((view, viewed.refusal), (View::Slice(_), 7)) {
-            return Err(format!("the view is refused with {}", viewed.refusal));
-        }
         if index < viewed.place.length {
             self.state.part(viewed.place).ok_or("the view lies outside its memory")?;
             self.state.write(viewed.place, index, value);
         }
-        placed(Placed { refusal: 0, ..viewed })
+        Ok(viewed)
     }
 
     /// A view's place and refusal, by the archive.
@@ -145,7 +116,7 @@ impl Port {
 
     /// A refused call changes nothing; commit, truncate and release change no byte, and a take none
     /// of the pool memory; no call touches what lies beside the memories.
-    fn check_untouched(&self, event: &Event, refusal: u8) -> Result<(), String> {
+    fn check_untouched(&self, event: &Event, refusal: u64) -> Result<(), String> {
         let (state, before) = (&self.state, &self.before);
         if refusal != 0 && state != before {
             return Err(format!("a call refused with {refusal} changes something"));
@@ -163,14 +134,4 @@ impl Port {
         }
         Ok(())
     }
-}
-
-/// The answer with this place. A refused call gives zeros.
-fn placed(placed: Placed) -> Result<Answer, String> {
-    let Placed { place, refusal } = placed;
-    if refusal != 0 && place != Place::default() {
-        return Err(format!("a call refused with {refusal} gives a place"));
-    }
-    let (start, len) = (place.start as usize, place.length as usize);
-    Ok(Answer { refusal, start, len, ..Answer::default() })
 }

@@ -5,7 +5,7 @@ use crate::pair;
 use oracle::calls::List;
 use oracle::text;
 
-/// Port and Rust, or port and document 01, do not agree.
+/// Port and Rust, or port and specification, do not agree.
 pub enum Disagreement {
     /// After the last event of a list.
     InList(List, String),

@@ -1,4 +1,5 @@
-//! The soundness test, written from DESIGN.md's text and not from the port. Sums are whole numbers.
+//! The soundness test, written from the rules' text (SPECIFICATION 4) and not from the port. Sums are
+//! whole numbers.
 //!
 //! In the comments s and n are `back_start` and `back_len`; f, c and l are the front's slots, bytes
 //! and used slots.
@@ -7,13 +8,18 @@ use buffer_pool::raw::{Record, BACK, BYTE_LIMIT, FRONT, OVERFLOW, SLOTS};
 
 /// Whether the record passes.
 pub fn sound(r: &Record) -> bool {
-    limited(r) && counted(r) && rising(r) && in_mode(r)
+    limited(r) && only_slots(r) && counted(r) && rising(r) && in_mode(r)
 }
 
 /// Capacity and overflow length are at most the byte limit, and kept is at most the overflow length.
 fn limited(r: &Record) -> bool {
     let limit = BYTE_LIMIT as u64;
     r.capacity <= limit && r.overflow <= limit && r.kept <= r.overflow
+}
+
+/// The live word has no bit but those of the slots.
+fn only_slots(r: &Record) -> bool {
+    u32::from(r.live) >> SLOTS == 0
 }
 
 /// s < 8, s + n ≤ 8, and n = 0 if the capacity is 0.
@@ -125,6 +131,8 @@ mod tests {
     #[test]
     fn one_number_off_fails() {
         assert!(!sound(&Record { mode: 3, ..octet() }));
+        assert!(!sound(&Record { mode: 0x100, ..octet() }));
+        assert!(!sound(&Record { live: 0x1ff, ..octet() }));
         assert!(!sound(&Record { used: 7, ..octet() }));
         assert!(!sound(&Record { reserved: 1, ..octet() }));
         assert!(!sound(&Record { raw_offset: 15, ..octet() }));

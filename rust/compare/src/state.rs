@@ -1,25 +1,35 @@
 //! The port's side: a record, its two memories, and the calls of the archive on them.
 
 use crate::memory::Memory;
-use buffer_pool::raw::{self, Handle, Place, Placed, Record, Reserved, Taken};
+use crate::stack::on_filled;
+use buffer_pool::raw::{self, Created, Handle, Place, Placed, Record, Reserved, Taken};
 
 /// All that a call reads and changes, but for a destination.
-#[derive(Clone, Debug, PartialEq)]
+#[derive(Clone, Debug)]
 pub struct State {
     pub record: Record,
     pub pool: Memory,
     pub overflow: Memory,
 }
 
+/// Every byte is the same, of the record as of the memories.
+impl PartialEq for State {
+    fn eq(&self, other: &State) -> bool {
+        self.record.as_bytes() == other.record.as_bytes()
+            && self.pool == other.pool
+            && self.overflow == other.overflow
+    }
+}
+
 impl State {
-    /// A new pool of these memories, or the refusal. Their bytes are as the call left them.
-    pub fn new(mut pool: Memory, overflow: Memory) -> (State, u8) {
+    /// A new pool of these memories, and what the call gives. Their bytes are as it left them.
+    pub fn new(mut pool: Memory, overflow: Memory) -> (State, Created) {
         let (bytes, other) = (pool.bytes_mut(), overflow.bytes());
         // SAFETY: both memories are borrowed here, with their lengths.
-        let created = unsafe {
+        let created = on_filled(|| unsafe {
             raw::buffer_pool_new(bytes.as_mut_ptr(), bytes.len(), other.as_ptr(), other.len())
-        };
-        (State { record: created.record, pool, overflow }, created.refusal)
+        });
+        (State { record: created.record, pool, overflow }, created)
     }
 
     /// Becomes a copy of another state, in the room that is there.
@@ -69,19 +79,25 @@ impl State {
     pub fn reserve(&mut self, len: u64) -> Reserved {
         let (pool, pool_len, overflow, overflow_len) = self.lent_mut();
         let record = &mut self.record;
-        unsafe { raw::buffer_pool_reserve(record, pool, pool_len, overflow, overflow_len, len) }
+        on_filled(|| unsafe {
+            raw::buffer_pool_reserve(record, pool, pool_len, overflow, overflow_len, len)
+        })
     }
 
     pub fn commit(&mut self, n: u64) -> Placed {
         let (pool, pool_len, overflow, overflow_len) = self.lent();
         let record = &mut self.record;
-        unsafe { raw::buffer_pool_commit(record, pool, pool_len, overflow, overflow_len, n) }
+        on_filled(|| unsafe {
+            raw::buffer_pool_commit(record, pool, pool_len, overflow, overflow_len, n)
+        })
     }
 
     pub fn truncate(&mut self, n: u64) -> Placed {
         let (pool, pool_len, overflow, overflow_len) = self.lent();
         let record = &mut self.record;
-        unsafe { raw::buffer_pool_truncate(record, pool, pool_len, overflow, overflow_len, n) }
+        on_filled(|| unsafe {
+            raw::buffer_pool_truncate(record, pool, pool_len, overflow, overflow_len, n)
+        })
     }
 
     pub fn take(&mut self, destination: &mut Memory) -> Taken {
@@ -89,29 +105,39 @@ impl State {
         let destination = destination.bytes_mut();
         let (to, to_len) = (destination.as_mut_ptr(), destination.len());
         let record = &mut self.record;
-        unsafe { raw::buffer_pool_take(record, pool, pool_len, overflow, overflow_len, to, to_len) }
+        on_filled(|| unsafe {
+            raw::buffer_pool_take(record, pool, pool_len, overflow, overflow_len, to, to_len)
+        })
     }
 
     pub fn release(&mut self, handle: Handle) -> u8 {
         let (pool, pool_len, overflow, overflow_len) = self.lent();
         let record = &mut self.record;
-        unsafe { raw::buffer_pool_release(record, pool, pool_len, overflow, overflow_len, handle) }
+        on_filled(|| unsafe {
+            raw::buffer_pool_release(record, pool, pool_len, overflow, overflow_len, handle)
+        })
     }
 
     pub fn frame(&self) -> Placed {
         let (pool, pool_len, overflow, overflow_len) = self.lent();
-        unsafe { raw::buffer_pool_frame(&self.record, pool, pool_len, overflow, overflow_len) }
+        on_filled(|| unsafe {
+            raw::buffer_pool_frame(&self.record, pool, pool_len, overflow, overflow_len)
+        })
     }
 
     pub fn reservation(&self) -> Placed {
         let (pool, pool_len, overflow, overflow_len) = self.lent();
         let record = &self.record;
-        unsafe { raw::buffer_pool_reservation(record, pool, pool_len, overflow, overflow_len) }
+        on_filled(|| unsafe {
+            raw::buffer_pool_reservation(record, pool, pool_len, overflow, overflow_len)
+        })
     }
 
     pub fn slice(&self, handle: Handle) -> Placed {
         let (pool, pool_len, overflow, overflow_len) = self.lent();
         let record = &self.record;
-        unsafe { raw::buffer_pool_slice(record, pool, pool_len, overflow, overflow_len, handle) }
+        on_filled(|| unsafe {
+            raw::buffer_pool_slice(record, pool, pool_len, overflow, overflow_len, handle)
+        })
     }
 }

@@ -1,5 +1,6 @@
 -- `by_value::commit` meets its contract. Assumes nothing.
 use Rattle.buffer_pool_c.specs.Exports.{commit}
+use Rattle.buffer_pool_c.proofs.RecordLaws.{live-fits}
 use Rattle.buffer_pool_c.proofs.ExportLaws.{turned, commit-through}
 use borrow.Author.Needs.{needs}
 use Rattle.buffer_pool_c.proofs.by_value.commit.Statement.{statement}
@@ -16,7 +17,7 @@ unfolding commit
 returns c = search turned
 
 pool-of-requires : tie.Need-pool-of-requires
-pool-of-requires c κs = search needs
+pool-of-requires c κs = search live-fits
 
 commit-requires : tie.Need-commit-requires
 commit-requires c κs = search needs

@@ -1,5 +1,6 @@
 -- `by_value::frame` meets its contract. Assumes nothing.
 use Rattle.buffer_pool_c.specs.Exports.{frame}
+use Rattle.buffer_pool_c.proofs.RecordLaws.{live-fits}
 use Rattle.buffer_pool_c.proofs.ExportLaws.{turned-view, frame-through}
 use borrow.Author.Needs.{needs}
 use Rattle.buffer_pool_c.proofs.by_value.frame.Statement.{statement}
@@ -16,7 +17,7 @@ unfolding frame
 returns c = search turned-view
 
 pool-of-requires : tie.Need-pool-of-requires
-pool-of-requires c κs = search needs
+pool-of-requires c κs = search live-fits
 
 frame-view-requires : tie.Need-frame-view-requires
 frame-view-requires c κs = search needs

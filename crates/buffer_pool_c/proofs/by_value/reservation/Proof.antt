@@ -1,5 +1,6 @@
 -- `by_value::reservation` meets its contract. Assumes nothing.
 use Rattle.buffer_pool_c.specs.Exports.{reservation}
+use Rattle.buffer_pool_c.proofs.RecordLaws.{live-fits}
 use Rattle.buffer_pool_c.proofs.ExportLaws.{turned-view, reservation-through}
 use borrow.Author.Needs.{needs}
 use Rattle.buffer_pool_c.proofs.by_value.reservation.Statement.{statement}
@@ -16,7 +17,7 @@ unfolding reservation
 returns c = search turned-view
 
 pool-of-requires : tie.Need-pool-of-requires
-pool-of-requires c κs = search needs
+pool-of-requires c κs = search live-fits
 
 reservation-view-requires : tie.Need-reservation-view-requires
 reservation-view-requires c κs = search needs

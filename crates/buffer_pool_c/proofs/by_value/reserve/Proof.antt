@@ -1,5 +1,6 @@
 -- `by_value::reserve` meets its contract. Assumes nothing.
 use Rattle.buffer_pool_c.specs.Exports.{reserve}
+use Rattle.buffer_pool_c.proofs.RecordLaws.{live-fits}
 use Rattle.buffer_pool_c.proofs.ExportLaws.{turned, reserve-through}
 use borrow.Author.Needs.{needs}
 use Rattle.buffer_pool_c.proofs.by_value.reserve.Statement.{statement}
@@ -16,7 +17,7 @@ unfolding reserve
 returns c = search turned
 
 pool-of-requires : tie.Need-pool-of-requires
-pool-of-requires c κs = search needs
+pool-of-requires c κs = search live-fits
 
 reserve-requires : tie.Need-reserve-requires
 reserve-requires c κs = search needs

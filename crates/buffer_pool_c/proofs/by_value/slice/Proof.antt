@@ -1,5 +1,6 @@
 -- `by_value::slice` meets its contract. Assumes nothing.
 use Rattle.buffer_pool_c.specs.Exports.{slice}
+use Rattle.buffer_pool_c.proofs.RecordLaws.{live-fits}
 use Rattle.buffer_pool_c.proofs.ExportLaws.{turned-view, slice-through}
 use borrow.Author.Needs.{needs}
 use Rattle.buffer_pool_c.proofs.by_value.slice.Statement.{statement}
@@ -16,7 +17,7 @@ unfolding slice
 returns c = search turned-view
 
 pool-of-requires : tie.Need-pool-of-requires
-pool-of-requires c κs = search needs
+pool-of-requires c κs = search live-fits
 
 named-requires : tie.Need-named-requires
 named-requires c κs = search needs

@@ -1,5 +1,6 @@
 -- `by_value::take` meets its contract. Assumes nothing.
 use Rattle.buffer_pool_c.specs.Exports.{take}
+use Rattle.buffer_pool_c.proofs.RecordLaws.{live-fits}
 use Rattle.buffer_pool_c.proofs.ExportLaws.{turned, take-through}
 use borrow.Author.Needs.{needs}
 use Rattle.buffer_pool_c.proofs.by_value.take.Statement.{statement}
@@ -16,7 +17,7 @@ unfolding take
 returns c = search turned
 
 pool-of-requires : tie.Need-pool-of-requires
-pool-of-requires c κs = search needs
+pool-of-requires c κs = search live-fits
 
 take-requires : tie.Need-take-requires
 take-requires c κs = search needs

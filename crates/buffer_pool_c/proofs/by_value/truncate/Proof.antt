@@ -1,5 +1,6 @@
 -- `by_value::truncate` meets its contract. Assumes nothing.
 use Rattle.buffer_pool_c.specs.Exports.{truncate}
+use Rattle.buffer_pool_c.proofs.RecordLaws.{live-fits}
 use Rattle.buffer_pool_c.proofs.ExportLaws.{turned, truncate-through}
 use borrow.Author.Needs.{needs}
 use Rattle.buffer_pool_c.proofs.by_value.truncate.Statement.{statement}
@@ -16,7 +17,7 @@ unfolding truncate
 returns c = search turned
 
 pool-of-requires : tie.Need-pool-of-requires
-pool-of-requires c κs = search needs
+pool-of-requires c κs = search live-fits
 
 truncate-requires : tie.Need-truncate-requires
 truncate-requires c κs = search needs

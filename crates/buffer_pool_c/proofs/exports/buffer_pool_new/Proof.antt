@@ -13,8 +13,11 @@ no-front-requires c κs = search needs
 record-of-requires : tie.Need-record-of-requires
 record-of-requires c κs = search needs
 
-refusal-of-requires : tie.Need-refusal-of-requires
-refusal-of-requires c κs = search needs
+refusal-requires : tie.Need-refusal-requires
+refusal-requires c κs = search needs
+
+cast-t10 : tie.Need-cast-t10
+cast-t10 c = search needs
 
 same-length : tie.Need-same-length
 same-length c = search needs
@@ -23,4 +26,4 @@ returns : tie.Need-returns
 returns c = search new-as
 
 pub buffer-pool-new-spec : {M : Type 1} → statement M
-buffer-pool-new-spec = tie.close (tie.spec new-requires no-front-requires record-of-requires refusal-of-requires same-length returns)
+buffer-pool-new-spec = tie.close (tie.spec new-requires no-front-requires record-of-requires refusal-requires cast-t10 same-length returns)

@@ -4,17 +4,23 @@ use borrow.Author.Needs.{needs}
 use Rattle.buffer_pool_c.proofs.results.take_result.Statement.{statement}
 use Rattle.buffer_pool_c.proofs.results.take_result.Tie as tie
 
-handle-of-requires : tie.Need-handle-of-requires
-handle-of-requires c κs = search needs
+handle-requires : tie.Need-handle-requires
+handle-requires c κs = search needs
 
-copied-of-requires : tie.Need-copied-of-requires
-copied-of-requires c κs = search needs
+given-handle-requires : tie.Need-given-handle-requires
+given-handle-requires c κs = search needs
 
-refusal-of-requires : tie.Need-refusal-of-requires
-refusal-of-requires c κs = search needs
+copied-requires : tie.Need-copied-requires
+copied-requires c κs = search needs
+
+refusal-requires : tie.Need-refusal-requires
+refusal-requires c κs = search needs
+
+cast-t6 : tie.Need-cast-t6
+cast-t6 c = search needs
 
 returns : tie.Need-returns
 returns c = search take-result-as
 
 pub take-result-spec : {M : Type 1} → statement M
-take-result-spec = tie.close (tie.spec handle-of-requires copied-of-requires refusal-of-requires returns)
+take-result-spec = tie.close (tie.spec handle-requires given-handle-requires copied-requires refusal-requires cast-t6 returns)
