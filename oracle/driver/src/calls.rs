@@ -1,6 +1,6 @@
 //! The calls file: lists of calls and view writes, in binary. README.md describes it.
 
-/// The most bytes that either memory may have (document 01, refusal 3).
+/// The most bytes that either memory may have (SPECIFICATION 3.3, refusal 3).
 pub const BYTE_LIMIT: u32 = 1_048_576;
 
 /// Bytes in a list's head and in one event.

@@ -1,5 +1,5 @@
-//! Document 01's proved cases and its listing, asked of the Rust. The expected values are typed in
-//! from document 01; nothing here is copied from what the driver prints.
+//! The cases of SPECIFICATION 11 and the listing of 12, asked of the Rust. The expected values are
+//! typed in as the customers gave them; nothing here is copied from what the driver prints.
 
 use crate::classes::Tally;
 use crate::generate;
@@ -136,8 +136,8 @@ fn a_second_release_is_refused() {
     assert_eq!(done("pool 16 overflow 20\nr 6; c 6; t\nd 1; d 1").refusals(2), [0, 7]);
 }
 
-/// The listing of document 01, as it stands there; trace.rs asks the Rust for it. Its last column is
-/// the move, not the changes.
+/// The listing of SPECIFICATION 12, as it stands there; trace.rs asks the Rust for it. Its last
+/// column is the move, not the changes.
 pub const LISTING: &str = "\
 pool 16 overflow 12
 1 r 0 B 00 0 6 0

@@ -1,6 +1,7 @@
 //! What kinds of event a calls file reaches, counted. A class is named by what the Rust does, told
-//! from the numbers before and after; an event may be of several classes. DESIGN.md's "Moves" has
-//! the classes of reserve; "frame" and "empty" say whether the frame that stands has bytes.
+//! from the numbers before and after; an event may be of several classes. A class of reserve has
+//! the modes before and after, the reset, the mode changes and the moves (SPECIFICATION 5 and 6);
+//! "frame" and "empty" say whether the frame that stands has bytes.
 
 use crate::calls::{Event, List, View, BYTE_LIMIT};
 use crate::judge::{Answer, Judge, Situation};
@@ -324,7 +325,7 @@ fn reserve(before: &Situation, len: u64, answer: &Answer, judge: &Judge) -> Vec<
     names
 }
 
-/// The class of DESIGN.md's "Moves".
+/// The class of a reserve by its modes, reset, changes and moves.
 fn move_class(before: &Situation, len: u64, after: &Situation, changes: u32) -> String {
     let reset = resets(before);
     let moves = match (letter(before), reset, letter(after), changes) {

@@ -5,7 +5,7 @@ use crate::changes;
 use crate::record::{mask, slot_of, Mode, Pool, Record, SLOTS};
 use buffer_sv2::{Buffer, Slice};
 
-/// The refusals of document 01 that a call on a sound record can meet.
+/// The refusals of SPECIFICATION 3.3 that a call on a sound record can meet.
 pub const OVERFLOW_TOO_SHORT: u8 = 4;
 pub const COMMIT_TOO_LONG: u8 = 5;
 pub const DESTINATION_TOO_SHORT: u8 = 6;

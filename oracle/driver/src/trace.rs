@@ -1,5 +1,5 @@
 //! Traces: written from a list, run on the Rust, and made good and damaged from a seed. The listing
-//! is document 01's, "The trace and poolreplay".
+//! is that of docs/SPECIFICATION.md, 9 and 10.
 
 use crate::calls::{Event, List, View};
 use crate::generate;
