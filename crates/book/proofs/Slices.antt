@@ -6,10 +6,9 @@ use mathlib.Core.Logic.{_≢_}
 use Prim.Native.Nat.{ℕ, _≤_, _+_}
 use native.Mathlib.Omega.{arith}
 use native.Mathlib.Nat.{le-refl}
-use borrow.Author.Tests.{eqb-true, le-leb, eq-eqb}
+use borrow.Author.Tests.{eqb-true, eq-eqb}
 use lib.ListN.{length}
-use Rattle.laws.specs.Live.{liveAt}
-use Rattle.laws.proofs.Tests.{no-true, both-true, both, leb-and, eqb-and}
+use Rattle.laws.proofs.Tests.{no-true, both, eqb-and}
 use Rattle.buffer_pool.specs.declared.buffer_pool.BufferPool.{BufferPool}
 use Rattle.buffer_pool.specs.declared.buffer_pool.PoolMode.{PoolMode}
 use Rattle.buffer_pool.specs.declared.buffer_pool.PoolMode.the-variants.{Back, Front, Alloc}
@@ -23,6 +22,7 @@ use Rattle.buffer_pool.specs.Sound.{Held, Orderly}
 use Rattle.buffer_pool.specs.Steps.{names, at, frameOf, frame, reservation}
 use Rattle.buffer_pool.proofs.Order.{startOf, endOf}
 use Rattle.buffer_pool.proofs.Unchanged.{Fixed, fixed}
+use Rattle.buffer_pool.proofs.Handles as handles
 use Rattle.buffer_pool.proofs.Ranges.{Apart, before, behind, orderly-apart}
 use Rattle.book.specs.Book.{sameHandle}
 use Rattle.book.proofs.Carried.{end-is}
@@ -59,29 +59,13 @@ pub record Named (w : ℕ) (x : Fixed) (h : Handle) : Type 0 where
   pub serial-is : h .serial ≡ startAt (x .serials) (h .slot)
 
 pub names-use : (w : ℕ) (r : BufferPool) (h : Handle) → names w r h ≡ true → Named w (fixed r) h
-unfolding names
 names-use w r h e =
-    let a = leb-and 1 (h .slot) e in
-    let b = leb-and (h .slot) w (a .1) in
-    let c = both-true (liveAt w (r .live) (h .slot)) _ (b .1) in
-    let d = eqb-and (h .start) (startAt (r .starts) (h .slot)) (c .1) in
-    let f = eqb-and (h .length) (startAt (r .lengths) (h .slot)) (d .1) in
-    record {
-      held = record { one = a .0; most = b .0; here = c .0 };
-      start-is = d .0;
-      length-is = f .0;
-      serial-is = eqb-true (h .serial) (startAt (r .serials) (h .slot)) (f .1);
-    }
+    let N = handles.names-use w r h e in
+    record { held = N .here; start-is = N .start-is; length-is = N .length-is; serial-is = N .serial-is }
 
 pub names-make : (w : ℕ) (r : BufferPool) (h : Handle) → Named w (fixed r) h → names w r h ≡ true
-unfolding names
 names-make w r h N =
-    both (le-leb 1 (h .slot) (N .held .one))
-    (both (le-leb (h .slot) w (N .held .most))
-    (both (N .held .here)
-    (both (eq-eqb (h .start) (startAt (r .starts) (h .slot)) (N .start-is))
-    (both (eq-eqb (h .length) (startAt (r .lengths) (h .slot)) (N .length-is))
-    (eq-eqb (h .serial) (startAt (r .serials) (h .slot)) (N .serial-is))))))
+    handles.names-make w r h (record { here = N .held; start-is = N .start-is; length-is = N .length-is; serial-is = N .serial-is })
 
 -- two handles of one slot are one
 pub slot-one : {w : ℕ} {x : Fixed} {h k : Handle} → Named w x h → Named w x k → h .slot ≡ k .slot → h ≡ k

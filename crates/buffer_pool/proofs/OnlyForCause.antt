@@ -13,7 +13,6 @@ use lib.ListN.{length}
 use lib.Seq.{length-take-le}
 use Rattle.laws.specs.Tests.{pick}
 use Rattle.laws.specs.Live.{liveAt, released}
-use Rattle.laws.proofs.Tests.{eqb-and, not-false}
 use Rattle.buffer_pool.specs.declared.slice.Handle.{Handle}
 use Rattle.buffer_pool.specs.declared.buffer_pool.BufferPool.{BufferPool}
 use Rattle.buffer_pool.specs.declared.buffer_pool.PoolMode.{PoolMode}
@@ -34,6 +33,7 @@ use Rattle.buffer_pool.specs.Rust.{RustPool, rust-reserve}
 use Rattle.buffer_pool.specs.AsRust.{rustOf, heapOf, Mirrors, Stands}
 use Rattle.buffer_pool.specs.Vocabulary.{Part, TheFrame, TheReservation, TheSlice, Call, Reserve, Commit, Truncate, Take, Release, Look, viewOf, call, numberOf}
 use Rattle.buffer_pool.specs.Causes.{unsound, tooLarge, inOverflow, usesHeap, heapTooShort, pastReservation, destinationTooShort, unknown, serialsExhausted, Cause, cause, viewCauses, ownCauses, causes, newCauses, firstCause, First}
+use Rattle.buffer_pool.proofs.ViewPlaces.{fits}
 use Rattle.buffer_pool.proofs.Soundness.{sound-use}
 use Rattle.buffer_pool.proofs.Answers.{view-number}
 use Rattle.buffer_pool.proofs.Unchanged.{place-overflow}
@@ -67,12 +67,6 @@ module _ (w : ℕ) (r : BufferPool) (len : ℕ) (O : Orderly w r) where
       (counted (d .next .mode) (d .next) (place-overflow w r len) (L .0))
 
 -- ---- Memories of the record's lengths
-
-pub fits : (r : BufferPool) (m : Memories) → misfit r m ≡ false → (length (m .pool) ≡ r .capacity) × (length (m .overflow) ≡ r .overflow)
-unfolding misfit
-fits r m e =
-    let t = eqb-and (length (m .pool)) (r .capacity) (not-false _ e) in
-    (t .0, eqb-true (length (m .overflow)) (r .overflow) (t .1))
 
 -- the Rust's pool of a record and its memories
 pub mirrored : (w : ℕ) (r : BufferPool) (m : Memories) → Orderly w r → length (m .pool) ≡ r .capacity → length (m .overflow) ≡ r .overflow

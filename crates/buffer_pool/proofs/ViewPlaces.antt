@@ -4,12 +4,10 @@ use mathlib.Core.Path.{_≡_, refl, sym, subst}
 use mathlib.Core.Bool.{Bool, true, false, not}
 use Prim.Native.Nat.{ℕ, _+_, _≤_}
 use native.Mathlib.Omega.{arith}
-use lib.Dec.{leb, eqb}
 use lib.ListN.{length}
-use borrow.Author.Tests.{leb-true, eqb-true}
+use borrow.Author.Tests.{eqb-true}
 use Rattle.laws.specs.Tests.{pick}
-use Rattle.laws.specs.Live.{liveAt}
-use Rattle.laws.proofs.Tests.{both-true, not-false}
+use Rattle.laws.proofs.Tests.{not-false, eqb-and}
 use Rattle.buffer_pool.specs.declared.slice.Handle.{Handle}
 use Rattle.buffer_pool.specs.declared.buffer_pool.BufferPool.{BufferPool}
 use Rattle.buffer_pool.specs.declared.buffer_pool.PoolMode.{PoolMode}
@@ -17,7 +15,6 @@ use Rattle.buffer_pool.specs.declared.buffer_pool.PoolMode.the-variants.
 use Rattle.buffer_pool.specs.declared.buffer_pool.Memory.{Memory}
 use Rattle.buffer_pool.specs.declared.buffer_pool.Memory.the-variants.{Pool}
 use Rattle.buffer_pool.specs.declared.buffer_pool.View.{View}
-use Rattle.buffer_pool.specs.Record.{startAt}
 use Rattle.buffer_pool.specs.Moves.{Memories}
 use Rattle.buffer_pool.specs.Soundness.{sound}
 use Rattle.buffer_pool.specs.Sound.{Orderly}
@@ -27,6 +24,14 @@ use Rattle.buffer_pool.specs.Vocabulary.{Part, TheFrame, TheReservation,
 use Rattle.buffer_pool.proofs.BoundLaws.{end-some}
 use Rattle.buffer_pool.proofs.Soundness.{sound-use}
 use Rattle.buffer_pool.proofs.Ranges.{bytesFor, Inside, orderly-inside}
+use Rattle.buffer_pool.proofs.Handles.{names-use}
+
+-- memories that fit have the record's lengths
+pub fits : (p : BufferPool) (m : Memories) → misfit p m ≡ false → (length (m .pool) ≡ p .capacity) × (length (m .overflow) ≡ p .overflow)
+unfolding misfit
+fits p m e =
+    let t = eqb-and (length (m .pool)) (p .capacity) (not-false _ e) in
+    (t .0, eqb-true (length (m .overflow)) (p .overflow) (t .1))
 
 module _ (w : ℕ) (p : BufferPool) (m : Memories) where
   -- what is not refused with 1 or 2
@@ -44,12 +49,6 @@ module _ (w : ℕ) (p : BufferPool) (m : Memories) where
   passes-orderly : Passes → Orderly w p
   passes-orderly z = sound-use w p (z .0) .orderly
 
-  passes-fits : Passes → (length (m .pool) ≡ p .capacity) × (length (m .overflow) ≡ p .overflow)
-  unfolding misfit
-  passes-fits z =
-      let b = both-true (eqb (length (m .pool)) (p .capacity)) (eqb (length (m .overflow)) (p .overflow)) (not-false _ (z .1)) in
-      (eqb-true (length (m .pool)) (p .capacity) (b .0), eqb-true (length (m .overflow)) (p .overflow) (b .1))
-
   -- frame and reservation together
   gathered-lies : Passes → frame p .start + frame p .length + p .reserved ≤ length (memoryAt (frame p .memory) m)
   gathered-lies z = go (p .mode) (I .gathered)
@@ -59,9 +58,9 @@ module _ (w : ℕ) (p : BufferPool) (m : Memories) where
 
       go : (mode : PoolMode) → frameOf mode p .start + frameOf mode p .length + p .reserved ≤ bytesFor mode p
           → frameOf mode p .start + frameOf mode p .length + p .reserved ≤ length (memoryAt (frameOf mode p .memory) m)
-      go Back h = omega (arith, passes-fits z .0)
-      go (Front f) h = omega (arith, passes-fits z .0)
-      go Alloc h = omega (arith, I .kept, passes-fits z .1)
+      go Back h = omega (arith, fits p m (z .1) .0)
+      go (Front f) h = omega (arith, fits p m (z .1) .0)
+      go Alloc h = omega (arith, I .kept, fits p m (z .1) .1)
 
   pub frame-lies : (v : View) → v ≡ frameView w p m → Lies m (v .place)
   unfolding frameView
@@ -73,18 +72,10 @@ module _ (w : ℕ) (p : BufferPool) (m : Memories) where
 
   -- a handle that names a live slice has its range, which lies in the pool
   named-lies : (h : Handle) → Orderly w p → names w p h ≡ true → h .start + h .length ≤ p .capacity
-  unfolding names
   named-lies h O n =
-      let one = both-true (leb 1 (h .slot)) _ n in
-      let most = both-true (leb (h .slot) w) _ (one .1) in
-      let live = both-true (liveAt w (p .live) (h .slot)) _ (most .1) in
-      let start = both-true (eqb (h .start) (startAt (p .starts) (h .slot))) _ (live .1) in
-      let len = both-true (eqb (h .length) (startAt (p .lengths) (h .slot))) _ (start .1) in
-      let first : 1 ≤ h .slot = leb-true 1 (h .slot) (one .0) in
-      let end =
-      end-some (p .starts) (p .lengths) (h .slot) (λ z. omega (arith, z, first)) (h .start) (h .length)
-      (eqb-true (h .start) (startAt (p .starts) (h .slot)) (start .0)) (eqb-true (h .length) (startAt (p .lengths) (h .slot)) (len .0)) in
-      omega (arith, end, orderly-inside w p O .slices (h .slot) (record { one = first; most = leb-true (h .slot) w (most .0); here = live .0 }))
+      let N = names-use w p h n in
+      let end = end-some (p .starts) (p .lengths) (h .slot) (λ z. omega (arith, z, N .here .one)) (h .start) (h .length) (N .start-is) (N .length-is) in
+      omega (arith, end, orderly-inside w p O .slices (h .slot) (N .here))
 
   module _ (h : Handle) where
     -- a slice's view, by the tests: is the record sound, do the memories not fit, does the handle name a live slice
@@ -99,7 +90,7 @@ module _ (w : ℕ) (p : BufferPool) (m : Memories) where
             → sliceBy s f b .place .start + sliceBy s f b .place .length ≤ length (m .pool)
         go true true b e g i = omega arith
         go true false false e g i = omega arith
-        go true false true e g i = omega (arith, named-lies h (passes-orderly (e, g)) i, passes-fits (e, g) .0)
+        go true false true e g i = omega (arith, named-lies h (passes-orderly (e, g)) i, fits p m g .0)
         go false f b e g i = omega arith
 
     pub slice-pool : sliceView w p m h .place .memory ≡ Pool

@@ -16,7 +16,7 @@ use oracle::random::Random;
 /// The fields of a record, as `set` numbers them: 16 of their own, then three arrays.
 const FIELDS: usize = 16 + 3 * SLOTS;
 
-/// The fields of 16 bits, of which the pool reads one byte.
+/// The fields of 16 bits: a number above one byte is refused with 1.
 const LIVE: usize = 3;
 const MODE: usize = 4;
 
