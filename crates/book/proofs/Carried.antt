@@ -1,6 +1,6 @@
 -- What the moves of a frame carry: one within the pool, to a place that no live slice meets, one out to the overflow, and
 -- zeros behind a frame there, each leave the lengths of the memories, the live slices' bytes and the frame's. Assumes nothing.
-use mathlib.Core.Path.{_≡_, refl, sym, ap, _∙_}
+use mathlib.Core.Path.{_≡_, refl, ap, _∙_}
 use mathlib.Core.Bool.{Bool, true, false}
 use mathlib.Core.List.{List, [], _∷_, _++_}
 use Prim.Native.Nat.{ℕ, zero, suc, _+_, _-_, _≤_}
@@ -8,7 +8,7 @@ use native.Mathlib.Omega.{arith}
 use lib.ListN.{length, getD, take, drop, replicate, length-append, length-take, length-drop, length-replicate}
 use lib.Seq.{length-take-le}
 use Rattle.laws.specs.Lists.{part, copied, moved, zeroed}
-use Rattle.laws.proofs.Lists.{part-none, part-take, part-append-left}
+use Rattle.laws.proofs.Lists.{part-take, part-append-left}
 use Rattle.laws.proofs.Copies.{length-copied, part-copied-all, part-copied-before, part-copied-after}
 use Rattle.buffer_pool.specs.declared.buffer_pool.BufferPool.{BufferPool}
 use Rattle.buffer_pool.specs.declared.buffer_pool.PoolFront.{PoolFront}
@@ -25,6 +25,7 @@ use Rattle.buffer_pool.proofs.Parts.{weaken}
 use Rattle.buffer_pool.proofs.Rules.{tail-in}
 use Rattle.buffer_pool.proofs.Unchanged.{Fixed, fixed}
 use Rattle.buffer_pool.proofs.Ranges.{Apart, before, behind}
+use Rattle.buffer_pool.proofs.HeapMoves.{perform-append, perform-within}
 
 -- ---- What a list of moves carries
 
@@ -57,11 +58,6 @@ joined C D =
 
 pub sized-after : {w : ℕ} {x : Fixed} {m m′ : Memories} {a b : List ℕ} → Sized x m → Carried w x m m′ a b → Sized x m′
 sized-after Z C = record { pool-is = C .pool-same ∙ Z .pool-is; overflow-is = C .overflow-same ∙ Z .overflow-is }
-
-perform-append : (moves rest : List Move) (m : Memories) → perform (moves ++ rest) m ≡ perform rest (perform moves m)
-unfolding perform
-perform-append [] rest m = refl
-perform-append (a ∷ moves) rest m = perform-append moves rest (act m a)
 
 -- moves after moves
 pub appended : {w : ℕ} {x : Fixed} (moves rest : List Move) {m : Memories} {a b : List ℕ} (f : Memories → List ℕ)
@@ -100,37 +96,35 @@ module _ (w : ℕ) (q : BufferPool) (m : Memories) (Z : Sized (fixed q) m) where
   -- within the pool, to the frame's place in q, which no live slice meets
   module _ (start : ℕ) (h : start + q .«raw_len» ≤ q .capacity) (k : q .«raw_offset» + q .«raw_len» ≤ q .capacity)
       (clear : (p : ℕ) → Held w (q .live) p → Clear q p) where
-    moved-by : (l : ℕ) → q .«raw_len» ≡ l
-        → Carried w (fixed q) m (perform (within start l (q .«raw_offset»)) m) (part (m .pool) start l)
-        (part (perform (within start l (q .«raw_offset»)) m .pool) (q .«raw_offset») l)
-    unfolding perform act moved
-    moved-by zero e = still (part-none (m .pool) (q .«raw_offset») ∙ sym (part-none (m .pool) start))
-    moved-by (suc l) e =
-        let hs : start + suc l ≤ length (m .pool) = omega (arith, Z .pool-is) in
-        let ht : q .«raw_offset» + suc l ≤ length (m .pool) = omega (arith, Z .pool-is) in
+    abbrev len : ℕ
+    len = q .«raw_len»
+
+    abbrev to : ℕ
+    to = q .«raw_offset»
+
+    pub moved-carries : Carried w (fixed q) m (perform (within start len to) m) (part (m .pool) start len)
+        (pooled q (perform (within start len to) m))
+    unfolding moved
+    moved-carries =
+        let hs : start + len ≤ length (m .pool) = omega (arith, Z .pool-is) in
+        let ht : to + len ≤ length (m .pool) = omega (arith, Z .pool-is) in
+        rw (perform-within m start len to)
         record {
-          pool-same = length-copied (m .pool) start (suc l) (m .pool) (q .«raw_offset») hs ht;
+          pool-same = length-copied (m .pool) start len (m .pool) to hs ht;
           overflow-same = refl;
           slices = λ p t. go p hs ht (end-is (q .starts) (q .lengths) p (t .one)) (clear p t);
-          frame = part-copied-all (m .pool) start (suc l) (m .pool) (q .«raw_offset») hs ht;
+          frame = part-copied-all (m .pool) start len (m .pool) to hs ht;
         }
       where
-        go : (p : ℕ) → start + suc l ≤ length (m .pool) → q .«raw_offset» + suc l ≤ length (m .pool)
+        go : (p : ℕ) → start + len ≤ length (m .pool) → to + len ≤ length (m .pool)
             → endOf q p ≡ startOf q p + startAt (q .lengths) p
             → Clear q p
-            → part (copied (m .pool) start (suc l) (m .pool) (q .«raw_offset»)) (startOf q p) (startAt (q .lengths) p)
+            → part (copied (m .pool) start len (m .pool) to) (startOf q p) (startAt (q .lengths) p)
             ≡ part (m .pool) (startOf q p) (startAt (q .lengths) p)
         go p hs ht d (before x) =
-            part-copied-before (m .pool) start (suc l) (m .pool) (q .«raw_offset») hs ht (startOf q p) (startAt (q .lengths) p)
-            (omega arith)
+            part-copied-before (m .pool) start len (m .pool) to hs ht (startOf q p) (startAt (q .lengths) p) (omega arith)
         go p hs ht d (behind x) =
-            part-copied-after (m .pool) start (suc l) (m .pool) (q .«raw_offset») hs ht (startOf q p) (startAt (q .lengths) p)
-            (omega arith)
-
-    pub moved-carries : Carried w (fixed q) m (perform (within start (q .«raw_len») (q .«raw_offset»)) m)
-        (part (m .pool) start (q .«raw_len»))
-        (pooled q (perform (within start (q .«raw_len») (q .«raw_offset»)) m))
-    moved-carries = moved-by (q .«raw_len») refl
+            part-copied-after (m .pool) start len (m .pool) to hs ht (startOf q p) (startAt (q .lengths) p) (omega arith)
 
   -- out to the overflow's start
   pub moved-out : q .«raw_offset» + q .«raw_len» ≤ q .capacity → q .cursor ≡ 0 → q .cursor + q .«raw_len» ≤ q .overflow

@@ -3,7 +3,7 @@
 use mathlib.Core.Path.{_≡_, refl}
 use mathlib.Core.List.{[], _∷_, _++_, map}
 use Rattle.buffer_pool.specs.Computing.{definitions, rustDefinitions}
-use Rattle.buffer_pool.specs.Cases.{octet, octetInFront, table, twice, observed, letter, play, see, playAll, shownBy, wanted, rustOffer, watched, rustFrame, rustWritePool, rustWrite, reserved′, committed, taken, released, rustPlay, rustPlayAll, rustShownBy}
+use Rattle.buffer_pool.specs.Cases.{MoveCase, octet, octetInFront, table, twice, moveTable, playTo, movesBy, rustPlayTo, rustMovesBy, observed, letter, play, see, playAll, shownBy, wanted, rustOffer, watched, rustFrame, rustWritePool, rustWrite, reserved′, committed, taken, released, rustPlay, rustPlayAll, rustShownBy}
 
 pub cases : map shownBy (table ++ (twice ∷ [])) ≡ map wanted (table ++ (twice ∷ []))
 unfolding definitions octet octetInFront table twice observed letter play see playAll shownBy wanted
@@ -12,3 +12,12 @@ cases = refl
 pub rust-cases : map rustShownBy table ≡ map wanted table
 unfolding rustDefinitions octet octetInFront table observed letter wanted rustOffer watched rustFrame rustWritePool rustWrite reserved′ committed taken released rustPlay rustPlayAll rustShownBy
 rust-cases = refl
+
+-- 11.22 to 11.25
+pub move-cases : map movesBy moveTable ≡ map (λ (c : MoveCase). c .ours) moveTable
+unfolding definitions octet octetInFront moveTable play playTo movesBy
+move-cases = refl
+
+pub rust-move-cases : map rustMovesBy moveTable ≡ map (λ (c : MoveCase). c .rusts) moveTable
+unfolding rustDefinitions octet octetInFront moveTable watched rustFrame reserved′ committed taken released rustPlay rustPlayTo rustMovesBy
+rust-move-cases = refl

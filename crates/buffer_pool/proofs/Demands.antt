@@ -1,6 +1,7 @@
--- Demands 1 and 2, stated for the pool of 8 slots over the definitions of specs/Vocabulary.antt, Calls.antt, Causes.antt and
--- Together.antt. The proofs stand in Answers, RefusedKeeps, ViewPlaces, OnlyForCause and AsTheRust, for every slot count. No statement
--- on a call has a premise on record or memories (SPECIFICATION 3.2): "Nothing is left for the caller to test beforehand." Assumes
+-- Demands 1 and 2, and W-203, stated for the pool of 8 slots over the definitions of specs/Vocabulary.antt, Calls.antt, Causes.antt,
+-- Together.antt and RustMoves.antt. The proofs stand in Answers, RefusedKeeps, ViewPlaces, OnlyForCause, AsTheRust, RustAgrees and
+-- RustCalls, for every slot count. No statement on a call has a premise on record or memories (SPECIFICATION 3.2): "Nothing is left
+-- for the caller to test beforehand."; those that set it beside the Rust name a pool of the Rust that stands for them. Assumes
 -- nothing.
 use mathlib.Core.Path.{_≡_, refl, sym, ap, _∙_}
 use mathlib.Core.Bool.{true, false, _&&_}
@@ -15,22 +16,26 @@ use Rattle.buffer_pool.specs.declared.buffer_pool.BufferPool.{BufferPool
 use Rattle.buffer_pool.specs.declared.buffer_pool.Memory.the-variants.{Pool}
 use Rattle.buffer_pool.specs.declared.buffer_pool.Answer.the-variants.{Refused}
 use Rattle.buffer_pool.specs.Record.{slotCount, byteLimit}
-use Rattle.buffer_pool.specs.Moves.{Memories}
+use Rattle.buffer_pool.specs.Moves.{Memories, Move, perform}
 use Rattle.buffer_pool.specs.Soundness.{sound}
-use Rattle.buffer_pool.specs.Placing.{mostChanges}
+use Rattle.buffer_pool.specs.Sound.{Orderly}
+use Rattle.buffer_pool.specs.Placing.{mostChanges, place}
 use Rattle.buffer_pool.specs.Values.{values, refusal}
 use Rattle.buffer_pool.specs.Steps.{at, frame}
 use Rattle.buffer_pool.specs.declared.buffer_pool.View.{View}
-use Rattle.buffer_pool.specs.Calls.{Outcome, newRefused, newDone, new, Lies}
+use Rattle.buffer_pool.specs.Calls.{Outcome, newRefused, newDone, new, reserve, Lies}
 use Rattle.buffer_pool.specs.Rust.{done, RustPool, rust-reserve}
-use Rattle.buffer_pool.specs.AsRust.{Stands}
+use Rattle.buffer_pool.specs.RustMoves.{lessSelfCopies, rust-reserve-moves}
+use Rattle.buffer_pool.specs.AsRust.{rustOf, Stands, heapOf}
 use Rattle.buffer_pool.specs.Vocabulary.{Part, Call, Look, destinationOf, viewOf, call, numberOf, write, Result, Refusal}
 use Rattle.buffer_pool.specs.Causes.{usesHeap, heapTooShort, causes, newCauses, tooLarge, First, firstCause}
 use Rattle.buffer_pool.specs.Together.{Action, ourStart, accepted, shows, rustStart, rustShows}
 use Rattle.buffer_pool.proofs.ViewPlaces.{part-lies}
 use Rattle.buffer_pool.proofs.Answers.{view-number, write-number, call-answers}
 use Rattle.buffer_pool.proofs.RefusedKeeps.{refused-keeps, refused-view, past-written, refused-written, new-cases}
-use Rattle.buffer_pool.proofs.OnlyForCause.{only-for-cause, new-only-for-cause, four-is-the-rusts, first-is, first-holds}
+use Rattle.buffer_pool.proofs.OnlyForCause.{only-for-cause, new-only-for-cause, four-is-the-rusts, mirrored, first-is, first-holds}
+use Rattle.buffer_pool.proofs.RustAgrees.{moves-agree, moves-perform}
+use Rattle.buffer_pool.proofs.RustCalls.{reserve-makes}
 use Rattle.buffer_pool.proofs.AsTheRust.{as-the-rust}
 
 module _ (r : BufferPool) (m : Memories) (c : Call) where
@@ -130,3 +135,28 @@ unfolding tooLarge newCauses firstCause
 every-sequence-as-the-rust m es a b =
     as-the-rust slotCount m es (omega arith)
     (new-only-for-cause slotCount m ∙ rw (le-ltb byteLimit (length (m .pool)) a, le-ltb byteLimit (length (m .overflow)) b) refl)
+
+-- ---- W-203: the moves of a reserve, beside those of every pool of the Rust that stands for the record and the memories
+
+-- there is one for every orderly record and memories of its lengths
+pub a-rust-pool-stands : (r : BufferPool) (m : Memories) → Orderly slotCount r → length (m .pool) ≡ r .capacity
+    → length (m .overflow) ≡ r .overflow → Stands r m (rustOf r (heapOf r m) (r .reserved))
+a-rust-pool-stands r m O a b = record { mirrors = mirrored slotCount r m O a b; overflow-size = b }
+
+module _ (r : BufferPool) (m : Memories) (p : RustPool) (T : Stands r m p) (len : ℕ) where
+  abbrev rusts : List Move
+  rusts = rust-reserve-moves slotCount (suc mostChanges) p len
+
+  -- SPECIFICATION 6.9: the moves noted are "the Rust's, in its order, less those to the start where the frame already lies in that
+  -- memory"
+  pub decided-moves-are-the-rusts : Orderly slotCount r → place slotCount r len .moves ≡ lessSelfCopies rusts
+  decided-moves-are-the-rusts O = moves-agree slotCount 0 r (heapOf r m) p len O (T .mirrors)
+
+  -- "Either list leaves the same bytes in both memories"
+  pub either-list-leaves-the-same-bytes : Orderly slotCount r → perform (place slotCount r len .moves) m ≡ perform rusts m
+  either-list-leaves-the-same-bytes O = moves-perform slotCount 0 r (heapOf r m) p len O (T .mirrors) m .0
+
+  -- and a reserve that is not refused makes them
+  pub made-moves-are-the-rusts : refusal (reserve slotCount r m len .call .answer) ≡ 0
+      → reserve slotCount r m len .memory ≡ perform (lessSelfCopies rusts) m
+  made-moves-are-the-rusts = reserve-makes slotCount r m p T 0 len

@@ -1,23 +1,26 @@
 -- The moves on the Rust's `Vec` and on the lent overflow leave the same bytes, as long as the overflow begins with the bytes of
--- the `Vec` and is at least as long: each move keeps that, so a list of moves does. Assumes nothing.
+-- the `Vec` and is at least as long: each move keeps that, so a list of moves does; and a copy onto itself leaves every byte.
+-- Assumes nothing.
 use mathlib.Core.Path.{_≡_, refl, sym, ap, ap₂, _∙_}
 use mathlib.Core.Bool.{Bool, true, false}
 use mathlib.Core.List.{List, [], _∷_, _++_, append-nil}
 use Prim.Native.Nat.{ℕ, zero, suc, _+_, _-_, _≤_, _<_, max}
 use native.Mathlib.Nat.{zero-add, add-zero, sub-zero, zero-sub, suc-sub-suc}
 use native.Mathlib.Omega.{arith}
-use borrow.Author.Tests.{ltb-true, ltb-false}
+use borrow.Author.Tests.{ltb-true, ltb-false, eqb-true, ne-eqb}
 use lib.Dec.{ltb}
 use lib.ListN.{length, take, drop, replicate, length-append, length-take, length-drop, length-replicate, take-append-drop, drop-of-length-le}
-use lib.Seq.{length-take-le, take-nil, take-at, take-append-add}
+use lib.Seq.{take-add, length-take-le, take-nil, take-at, take-append-add}
 use Rattle.laws.specs.Tests.{pick}
 use Rattle.laws.specs.Lists.{part, copied, moved, zeroed}
+use Rattle.laws.proofs.Tests.{no-true}
 use Rattle.laws.proofs.Lists.{length-part, part-take}
 use Rattle.laws.proofs.Copies.{length-copied}
 use Rattle.buffer_pool.specs.declared.buffer_pool.BufferPool.{BufferPool}
-use Rattle.buffer_pool.specs.Moves.{Memories, memories, Move, In, Down, Out, act, perform, within}
+use Rattle.buffer_pool.specs.Moves.{Memories, memories, Move, Within, In, Down, Out, Grow, act, perform, within}
 use Rattle.buffer_pool.specs.Placing.{grows}
 use Rattle.buffer_pool.specs.Rust.{resized}
+use Rattle.buffer_pool.specs.RustMoves.{selfCopy, lessSelfCopies, move-raw-on-moves}
 use Rattle.buffer_pool.specs.AsRust.{heapAct, heapPerform, heapOf}
 
 -- ---- Lists
@@ -30,6 +33,11 @@ at-start x s l d = rw (zero-add l) refl
 pub moved-none : (x : List ℕ) (s t : ℕ) → moved x s 0 t ≡ x
 unfolding moved copied part
 moved-none x s t = rw (append-nil (take t x), add-zero t) (take-append-drop t x)
+
+-- a move to where the bytes are
+moved-self : (x : List ℕ) (s l t : ℕ) → s ≡ t → moved x s l t ≡ x
+unfolding moved copied part
+moved-self x s l t e = rw (← e, ← take-add s l x) (take-append-drop (s + l) x)
 
 pub length-moved : (x : List ℕ) (s l t : ℕ) → s + l ≤ length x → t + l ≤ length x → length (moved x s l t) ≡ length x
 unfolding moved
@@ -102,50 +110,109 @@ pub record Covers (x m : Memories) : Type 0 where
   pub enough : length (m .overflow) ≤ length (x .overflow)
   pub begins : take (length (m .overflow)) (x .overflow) ≡ m .overflow
 
--- the moves lead from m to n on a `Vec`, and so they do on memories that cover m, where the overflow is long enough for n
-pub record Leads (moves : List Move) (m n : Memories) : Type 0 where
-  pub heap : heapPerform moves m ≡ n
+-- the Rust's moves lead from m to n on a `Vec`, and so they do on memories that cover m, where the overflow is long enough for n;
+-- ours are these less the self copies
+pub record Leads (rusts moves : List Move) (m n : Memories) : Type 0 where
+  pub less : moves ≡ lessSelfCopies rusts
+  pub rust-heap : heapPerform rusts m ≡ n
   pub pool-size : length (n .pool) ≡ length (m .pool)
-  pub lent : (x : Memories) → Covers x m → length (n .overflow) ≤ length (x .overflow)
-      → Covers (perform moves x) n × (length (perform moves x .overflow) ≡ length (x .overflow))
+  pub rust-lent : (x : Memories) → Covers x m → length (n .overflow) ≤ length (x .overflow)
+      → Covers (perform rusts x) n × (length (perform rusts x .overflow) ≡ length (x .overflow))
+
+less-append : (a b : List Move) → lessSelfCopies (a ++ b) ≡ lessSelfCopies a ++ lessSelfCopies b
+unfolding lessSelfCopies
+less-append [] b = refl
+less-append (x ∷ a) b = go (less-append a b) (selfCopy x)
+  where
+    go : {l : List Move} → l ≡ lessSelfCopies a ++ lessSelfCopies b
+        → (same : Bool) → pick same l (x ∷ l) ≡ pick same (lessSelfCopies a) (x ∷ lessSelfCopies a) ++ lessSelfCopies b
+    go e true = e
+    go e false = ap (λ (l : List Move). x ∷ l) e
+
+-- moves made one after the other, each of which leaves what `one` says
+module _ (run : List Move → Memories → Memories) (one : Memories → Move → Memories) (none : (m : Memories) → run [] m ≡ m)
+    (more : (a : Move) (l : List Move) (m : Memories) → run (a ∷ l) m ≡ run l (one m a)) where
+  run-append : (a b : List Move) (m : Memories) → run (a ++ b) m ≡ run b (run a m)
+  run-append [] b m = rw (none m) refl
+  run-append (x ∷ a) b m = rw (more x (a ++ b) m, more x a m) (run-append a b (one m x))
+
+  -- where a self copy leaves every byte, the list less these leaves the same
+  run-less : ((m : Memories) (a : Move) → selfCopy a ≡ true → one m a ≡ m) → (l : List Move) (m : Memories) → run (lessSelfCopies l) m ≡ run l m
+  unfolding lessSelfCopies
+  run-less self [] m = refl
+  run-less self (a ∷ l) m = rw (more a l m) (go (run-less self l) (selfCopy a) refl)
+    where
+      go : ((n : Memories) → run (lessSelfCopies l) n ≡ run l n) → (same : Bool) → selfCopy a ≡ same
+          → run (pick same (lessSelfCopies l) (a ∷ lessSelfCopies l)) m ≡ run l (one m a)
+      go rest true e = rw (self m a e) (rest m)
+      go rest false e = rw (more a (lessSelfCopies l) m) (rest (one m a))
+
+-- in lent memories, and in those with a `Vec`
+self-act : (m : Memories) (a : Move) → selfCopy a ≡ true → (act m a ≡ m) × (heapAct m a ≡ m)
+unfolding selfCopy act heapAct
+self-act m (Within s l t) e =
+    let here = ap (λ (p : List ℕ). memories p (m .overflow)) (moved-self (m .pool) s l t (eqb-true s t e)) in (here, here)
+self-act m (In l) e = absurd (no-true e)
+self-act m (Down s l) e = absurd (no-true e)
+self-act m (Out s l) e = absurd (no-true e)
+self-act m (Grow s l) e = absurd (no-true e)
+
+pub perform-append : (a b : List Move) (m : Memories) → perform (a ++ b) m ≡ perform b (perform a m)
+unfolding perform
+perform-append = run-append perform act (λ m. refl) (λ a l m. refl)
 
 heap-append : (a b : List Move) (m : Memories) → heapPerform (a ++ b) m ≡ heapPerform b (heapPerform a m)
 unfolding heapPerform
-heap-append [] b m = refl
-heap-append (x ∷ a) b m = heap-append a b (heapAct m x)
+heap-append = run-append heapPerform heapAct (λ m. refl) (λ a l m. refl)
 
-perform-append : (a b : List Move) (m : Memories) → perform (a ++ b) m ≡ perform b (perform a m)
+pub less-performs : (l : List Move) (m : Memories) → perform (lessSelfCopies l) m ≡ perform l m
 unfolding perform
-perform-append [] b m = refl
-perform-append (x ∷ a) b m = perform-append a b (act m x)
+less-performs = run-less perform act (λ m. refl) (λ a l m. refl) (λ m a e. self-act m a e .0)
 
-pub leads-none : (m : Memories) → Leads [] m m
-unfolding heapPerform perform
-leads-none m = record { heap = refl; pool-size = refl; lent = λ x c h. (c, refl) }
+pub less-heap-performs : (l : List Move) (m : Memories) → heapPerform (lessSelfCopies l) m ≡ heapPerform l m
+unfolding heapPerform
+less-heap-performs = run-less heapPerform heapAct (λ m. refl) (λ a l m. refl) (λ m a e. self-act m a e .1)
 
-pub leads-append : {a b : List Move} {m n q : Memories} → Leads a m n → Leads b n q
-    → length (n .overflow) ≤ max (length (m .overflow)) (length (q .overflow)) → Leads (a ++ b) m q
-leads-append {a} {b} {m} {n} {q} A B h =
+pub leads-none : (m : Memories) → Leads [] [] m m
+unfolding lessSelfCopies heapPerform perform
+leads-none m = record { less = refl; rust-heap = refl; pool-size = refl; rust-lent = λ x c h. (c, refl) }
+
+pub leads-append : {c d a b : List Move} {m n q : Memories} → Leads c a m n → Leads d b n q
+    → length (n .overflow) ≤ max (length (m .overflow)) (length (q .overflow)) → Leads (c ++ d) (a ++ b) m q
+leads-append {c} {d} {a} {b} {m} {n} {q} A B h =
     record {
-      heap = heap-append a b m ∙ ap (heapPerform b) (A .heap) ∙ B .heap;
+      less = ap₂ (λ (x y : List Move). x ++ y) (A .less) (B .less) ∙ sym (less-append c d);
+      rust-heap = heap-append c d m ∙ ap (heapPerform d) (A .rust-heap) ∙ B .rust-heap;
       pool-size = B .pool-size ∙ A .pool-size;
-      lent = λ x c k.
-          let s = A .lent x c (omega (arith, c .enough)) in
-          let t = B .lent (perform a x) (s .0) (omega (arith, s .1)) in
-          rw (perform-append a b x) (t .0, t .1 ∙ s .1);
+      rust-lent = λ x e k.
+          let s = A .rust-lent x e (omega (arith, e .enough)) in
+          let t = B .rust-lent (perform c x) (s .0) (omega (arith, s .1)) in
+          rw (perform-append c d x) (t .0, t .1 ∙ s .1);
     }
 
 -- ---- Each move
 
+less-within : (s l t : ℕ) → within s l t ≡ lessSelfCopies (move-raw-on-moves s l t)
+unfolding lessSelfCopies selfCopy
+less-within s zero t = refl
+less-within s (suc l) t = rw (ne-eqb (suc l) 0 (λ e. omega arith)) refl
+
+-- what is left by the move of a frame, noted or not
+pub perform-within : (m : Memories) (s l t : ℕ) → perform (within s l t) m ≡ memories (moved (m .pool) s l t) (m .overflow)
+unfolding perform act
+perform-within m s zero t = rw (moved-none (m .pool) s t) refl
+perform-within m s (suc l) t = rw (less-within s (suc l) t, less-performs (Within s (suc l) t ∷ []) m) refl
+
 pub leads-within : (m : Memories) (s l t : ℕ) → s + l ≤ length (m .pool) → t + l ≤ length (m .pool)
-    → Leads (within s l t) m (memories (moved (m .pool) s l t) (m .overflow))
-unfolding heapPerform heapAct perform act
+    → Leads (move-raw-on-moves s l t) (within s l t) m (memories (moved (m .pool) s l t) (m .overflow))
+unfolding lessSelfCopies heapPerform heapAct perform act
 leads-within m s zero t h k = rw (moved-none (m .pool) s t) (leads-none m)
 leads-within m s (suc l) t h k =
     record {
-      heap = refl;
+      less = less-within s (suc l) t;
+      rust-heap = refl;
       pool-size = length-moved (m .pool) s (suc l) t h k;
-      lent = λ x c e.
+      rust-lent = λ x c e.
           (record { pool-same = ap (λ (p : List ℕ). moved p s (suc l) t) (c .pool-same); enough = c .enough; begins = c .begins }, refl);
     }
 
@@ -158,13 +225,14 @@ module _ (m : Memories) where
     pub length-sent : length (copied (m .pool) s l (resized v l) 0) ≡ max (length v) l
     length-sent = length-copied (m .pool) s l (resized v l) 0 h (omega (arith, length-resized v l)) ∙ length-resized v l
 
-    pub leads-out : Leads (Out s l ∷ []) m (memories (m .pool) (copied (m .pool) s l (resized v l) 0))
-    unfolding heapPerform heapAct perform act
+    pub leads-out : Leads (Out s l ∷ []) (Out s l ∷ []) m (memories (m .pool) (copied (m .pool) s l (resized v l) 0))
+    unfolding lessSelfCopies selfCopy heapPerform heapAct perform act
     leads-out =
         record {
-          heap = refl;
+          less = refl;
+          rust-heap = refl;
           pool-size = refl;
-          lent = λ x c e.
+          rust-lent = λ x c e.
               let z : length (copied (x .pool) s l (x .overflow) 0) ≡ length (x .overflow) =
               length-copied (x .pool) s l (x .overflow) 0 (rw (c .pool-same) h) (omega (arith, length-sent, e)) in (
                 record {
@@ -177,22 +245,24 @@ module _ (m : Memories) where
         }
 
   -- the `Vec` grows where it is too short
-  pub leads-grow : (end : ℕ) → Leads (grows (ltb (length v) end) (length v) end) m (memories (m .pool) (resized v end))
-  unfolding resized heapPerform heapAct perform act
+  pub leads-grow : (end : ℕ)
+      → Leads (grows (ltb (length v) end) (length v) end) (grows (ltb (length v) end) (length v) end) m (memories (m .pool) (resized v end))
+  unfolding lessSelfCopies selfCopy resized heapPerform heapAct perform act
   leads-grow end = go (ltb (length v) end) refl
     where
       longer : length v < end → length (v ++ replicate (end - length v) 0) ≡ end
       longer l = simp (length-append, length-replicate) (omega arith)
 
       go : (t : Bool) → ltb (length v) end ≡ t
-          → Leads (grows t (length v) end) m (memories (m .pool) (pick t (v ++ replicate (end - length v) 0) v))
+          → Leads (grows t (length v) end) (grows t (length v) end) m (memories (m .pool) (pick t (v ++ replicate (end - length v) 0) v))
       go false p = leads-none m
       go true p =
           let l = ltb-true (length v) end p in
           record {
-            heap = rw p refl;
+            less = refl;
+            rust-heap = rw p refl;
             pool-size = refl;
-            lent = λ x c e.
+            rust-lent = λ x c e.
                 let z : length (zeroed (x .overflow) (length v) end) ≡ length (x .overflow) =
                 length-zeroed (x .overflow) (length v) end (omega arith) (omega (arith, longer l, e)) in (
                   record {
@@ -206,13 +276,14 @@ module _ (m : Memories) where
 
   -- the bytes past the frame go down, after the frame has gone in or away
   module _ (c : ℕ) (h : c ≤ length v) where
-    pub leads-down : Leads (Down c (length v - c) ∷ []) m (memories (m .pool) (drop c v))
-    unfolding heapPerform heapAct perform act moved
+    pub leads-down : Leads (Down c (length v - c) ∷ []) (Down c (length v - c) ∷ []) m (memories (m .pool) (drop c v))
+    unfolding lessSelfCopies selfCopy heapPerform heapAct perform act moved
     leads-down =
         record {
-          heap = refl;
+          less = refl;
+          rust-heap = refl;
           pool-size = refl;
-          lent = λ x t e.
+          rust-lent = λ x t e.
               let z : length (moved (x .overflow) c (length v - c) 0) ≡ length (x .overflow) =
               length-moved (x .overflow) c (length v - c) 0 (omega (arith, t .enough)) (omega (arith, t .enough)) in (
                 record {
@@ -224,13 +295,14 @@ module _ (m : Memories) where
               );
         }
 
-    pub leads-in : c ≤ length (m .pool) → Leads (In c ∷ []) m (memories (copied v 0 c (m .pool) 0) v)
-    unfolding heapPerform heapAct perform act
+    pub leads-in : c ≤ length (m .pool) → Leads (In c ∷ []) (In c ∷ []) m (memories (copied v 0 c (m .pool) 0) v)
+    unfolding lessSelfCopies selfCopy heapPerform heapAct perform act
     leads-in k =
         record {
-          heap = refl;
+          less = refl;
+          rust-heap = refl;
           pool-size = length-copied v 0 c (m .pool) 0 (omega arith) (omega arith);
-          lent = λ x t e. (
+          rust-lent = λ x t e. (
             record {
               pool-same = rw (t .pool-same) (in-same (x .overflow) v (t .begins) (t .enough) c (m .pool) h);
               enough = t .enough;
@@ -240,22 +312,27 @@ module _ (m : Memories) where
           );
         }
 
+-- ours lead there too
+pub leads-heap : {rusts moves : List Move} {m n : Memories} → Leads rusts moves m n → heapPerform moves m ≡ n
+leads-heap {rusts} {moves} {m} L = rw (L .less) (less-heap-performs rusts m ∙ L .rust-heap)
+
 -- ---- The kept bytes of a lent overflow, as a `Vec`
 
-module _ (r q : BufferPool) (m : Memories) {n : Memories} {moves : List Move} (L : Leads moves (heapOf r m) n)
+module _ (r q : BufferPool) (m : Memories) {n : Memories} {rusts moves : List Move} (L : Leads rusts moves (heapOf r m) n)
     (before : r .kept ≤ length (m .overflow)) (after : q .kept ≤ length (m .overflow)) (size : length (n .overflow) ≡ q .kept) where
   kept-size : length (take (r .kept) (m .overflow)) ≡ r .kept
   kept-size = length-take-le (r .kept) (m .overflow) before
 
   lent : Covers (perform moves m) n × (length (perform moves m .overflow) ≡ length (m .overflow))
   lent =
-      L .lent m
+      rw (L .less, less-performs rusts m)
+      (L .rust-lent m
       (record { pool-same = refl; enough = omega (arith, kept-size); begins = ap (λ (k : ℕ). take k (m .overflow)) kept-size })
-      (omega (arith, size))
+      (omega (arith, size)))
 
   pub lent-bytes : heapPerform moves (heapOf r m) ≡ heapOf q (perform moves m)
   lent-bytes =
-      L .heap ∙ ap₂ memories (sym (lent .0 .pool-same)) (sym (lent .0 .begins) ∙ ap (λ (k : ℕ). take k (perform moves m .overflow)) size)
+      leads-heap L ∙ ap₂ memories (sym (lent .0 .pool-same)) (sym (lent .0 .begins) ∙ ap (λ (k : ℕ). take k (perform moves m .overflow)) size)
 
   pub lent-sizes : (length (perform moves m .pool) ≡ length (m .pool)) × (length (perform moves m .overflow) ≡ length (m .overflow))
   lent-sizes = (ap length (lent .0 .pool-same) ∙ L .pool-size, lent .1)

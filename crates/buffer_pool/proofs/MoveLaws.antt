@@ -1,15 +1,17 @@
 -- A move pushed to the code's list is the last of the moves that the list says. Assumes nothing.
 use mathlib.Core.Path.{_≡_, refl, sym, ap, _∙_}
+use mathlib.Core.Bool.{Bool, true, false, _||_}
 use mathlib.Core.List.{List, [], _∷_, _++_, map, map-append, append-nil}
-use Prim.Native.Nat.{ℕ, zero, suc, _+_, _<_}
+use Prim.Native.Nat.{ℕ, suc, _+_, _<_}
 use native.Mathlib.Numerals.{add-one}
 use native.Mathlib.Omega.{arith}
+use lib.Dec.{eqb}
 use lib.ListN.{length, take, getD, set, length-set}
 use lib.Seq.{take-suc, take-set-le, getD-set-same}
 use Rattle.buffer_pool.specs.declared.moves.ByteMove.{ByteMove}
 use Rattle.buffer_pool.specs.declared.moves.MoveKind.the-variants as kind
 use Rattle.buffer_pool.specs.declared.moves.Moves.{Moves}
-use Rattle.buffer_pool.specs.Moves.{Move, Within, within}
+use Rattle.buffer_pool.specs.Moves.{Move, within}
 use Rattle.buffer_pool.specs.MoveList.{byteMove, moveOf, listed}
 
 -- the code knows the length of an array of structs by way of their machine values
@@ -33,14 +35,11 @@ unfolding listed
 listed-pushed moves m h =
     ap (map moveOf) (take-pushed (moves .items) (moves .count) m h) ∙ map-append moveOf (take (moves .count) (moves .items)) (m ∷ [])
 
-module _ (start len to : ℕ) (before : List Move) where
-  pub within-empty : len ≡ 0 → before ≡ before ++ within start len to
-  within-empty z = rw z (sym (append-nil before))
+-- by the Bool that says whether there is nothing to move
+module _ (start len to : ℕ) (before : List Move) (unmoved : Bool) (is : unmoved ≡ (eqb len 0 || eqb start to)) where
+  pub within-unmoved : unmoved ≡ true → before ≡ before ++ within start len to
+  within-unmoved e = rw (sym is ∙ e) (sym (append-nil before))
 
-  pub within-moved : (after : List Move) → (len ≡ 0 → ⊥) → after ≡ before ++ (moveOf (byteMove kind.Within start len to) ∷ []) → after ≡ before ++ within start len to
+  pub within-moved : (after : List Move) → unmoved ≡ false → after ≡ before ++ (moveOf (byteMove kind.Within start len to) ∷ []) → after ≡ before ++ within start len to
   unfolding moveOf
-  within-moved after n e = go len n e
-    where
-      go : (k : ℕ) → (k ≡ 0 → ⊥) → after ≡ before ++ (Within start k to ∷ []) → after ≡ before ++ within start k to
-      go zero n e = absurd (n refl)
-      go (suc k) n e = e
+  within-moved after e a = rw (sym is ∙ e) a

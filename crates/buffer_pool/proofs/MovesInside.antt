@@ -1,18 +1,19 @@
 -- The moves of a reserve that is not refused lie inside the two memories: a frame moves from where it lies to where the next record has
 -- it, and both are inside. The same tree as ReserveKept.antt. Assumes nothing.
 use mathlib.Core.Path.{_≡_, refl, sym, subst}
-use mathlib.Core.Bool.{Bool, true, false, _&&_}
+use mathlib.Core.Bool.{Bool, true, false, _&&_, _||_}
 use mathlib.Core.List.{List, [], _∷_, _++_}
 use Prim.Native.Nat.{ℕ, zero, suc, _+_, _-_, _≤_, _<_}
 use native.Mathlib.Omega.{arith}
 use lib.Dec.{ltb, eqb}
 use borrow.Author.Tests.{ltb-true, ltb-false, le-leb}
+use Rattle.laws.specs.Tests.{pick}
 use Rattle.laws.proofs.Tests.{both, both-true}
 use Rattle.buffer_pool.specs.declared.buffer_pool.BufferPool.{BufferPool}
 use Rattle.buffer_pool.specs.declared.buffer_pool.PoolFront.{PoolFront}
 use Rattle.buffer_pool.specs.declared.buffer_pool.PoolMode.{PoolMode}
 use Rattle.buffer_pool.specs.declared.buffer_pool.PoolMode.the-variants.{Back, Front, Alloc}
-use Rattle.buffer_pool.specs.Moves.{Move, Out, within, inside, allInside}
+use Rattle.buffer_pool.specs.Moves.{Move, Within, Out, within, inside, allInside}
 use Rattle.buffer_pool.specs.Placing.{Decision, Layer, toAlloc, grows, finish, changed, change, goOut, resolve, clearable, tailStart, tailFits, tailCleared, headFits, headCleared, backFits, backOn, frontFits, frontLast, frontStart, frontCleared, leaveOn, leave, frontOn, stays, allocOn, layer, backLayer, frontLayer, allocLayer, placeOf, mostChanges, resets, resetOn, resetMoves, reset, place, tooLong}
 use Rattle.buffer_pool.specs.Sound.{Ready, InBack, InFront, InAlloc, InMode, Orderly}
 use Rattle.buffer_pool.proofs.Rules.{out-ready, tail-fits, tail-ready, tail-in, tail-room, head-ready, head-in, front-ready, front-start}
@@ -26,8 +27,11 @@ inside-append c o (x ∷ a) b e f = let t = both-true (inside c o x) _ e in both
 -- the frame within the pool
 within-inside : (c o s l t : ℕ) → s + l ≤ c → t + l ≤ c → allInside c o (within s l t) ≡ true
 unfolding allInside inside
-within-inside c o s zero t h k = refl
-within-inside c o s (suc l) t h k = rw (le-leb (s + suc l) c h, le-leb (t + suc l) c k)
+within-inside c o s l t h k = go (eqb l 0 || eqb s t)
+  where
+    go : (unmoved : Bool) → allInside c o (pick unmoved [] (Within s l t ∷ [])) ≡ true
+    go true = refl
+    go false = rw (le-leb (s + l) c h, le-leb (t + l) c k)
 
 -- the frame out to the overflow, after moves inside
 out-inside : (c o s l : ℕ) (moves : List Move) → s + l ≤ c → l ≤ o → allInside c o moves ≡ true → allInside c o (moves ++ (Out s l ∷ [])) ≡ true

@@ -24,13 +24,14 @@ use Rattle.buffer_pool.specs.Record.{placed, framed, marked}
 use Rattle.buffer_pool.specs.Moves.{Memories, memories, Move, In, Down, within, perform}
 use Rattle.buffer_pool.specs.Placing.{Decision, clearable, tailFits, tailCleared, headFits, headCleared, toAlloc, finish, backFits, backOn, stays, allocOn, layer, backLayer, allocLayer, placeOf, mostChanges, resets, resetOn, resetMoves, reset, place, tooLong}
 use Rattle.buffer_pool.specs.Sound.{Ready, InBack, InFront, InAlloc, InMode, Orderly}
-use Rattle.buffer_pool.specs.Rust.{Run, Reply, done, with, RustPool, pool, back, system, raw, slotted, used-to, in-bounds, system-frame, system-get-data-owned, prepend-raw-data, move-raw-at-offset, offered, reserve-from-system-memory, reserve_, reset-on, rust-reset, resets-now, rust-reserve}
+use Rattle.buffer_pool.specs.Rust.{Run, done, with, RustPool, pool, back, system, raw, slotted, used-to, in-bounds, system-frame, system-get-data-owned, prepend-raw-data, move-raw-at-offset, offered, reserve-from-system-memory, reserve_, reset-on, rust-reset, resets-now, rust-reserve}
+use Rattle.buffer_pool.specs.RustMoves.{lessSelfCopies, move-raw-moves, reserve-from-system-memory-moves, offered-moves, reserve-moves, reset-moves, rust-reserve-moves}
 use Rattle.buffer_pool.specs.AsRust.{innerOf, rustAt, rustOf, Mirrors, Leaves, decided, heapPerform, heapOf}
 use Rattle.buffer_pool.proofs.Rules.{tail-room, tail-ready, tail-in, head-ready, head-in}
 use Rattle.buffer_pool.proofs.ReserveKept.{back-fits, kept-fit, reset-fit, place-orderly}
 use Rattle.buffer_pool.proofs.Unchanged.{place-overflow}
-use Rattle.buffer_pool.proofs.HeapMoves.{Leads, leads-none, leads-append, leads-within, leads-in, leads-down, lent-bytes, lent-sizes}
-use Rattle.buffer_pool.proofs.RustFunctions.{move-raw-is, back-fits-is}
+use Rattle.buffer_pool.proofs.HeapMoves.{Leads, leads-none, leads-append, leads-within, leads-in, leads-down, leads-heap, less-performs, less-heap-performs, lent-bytes, lent-sizes}
+use Rattle.buffer_pool.proofs.RustFunctions.{move-raw-is, back-fits-is, back-fits-moves-is}
 use Rattle.buffer_pool.proofs.RustLayers.{Sized, Gives, unmoved, settled, system-gives, layer-back, layer-front, layer-alloc}
 
 -- ---- `reserve_` and the placing, on a record in a mode
@@ -40,7 +41,8 @@ module _ (w len : ℕ) where
   abbrev Agrees : ℕ → ℕ → ℕ → Bool → PoolMode → BufferPool → Type 0
   Agrees live k j entered mode r =
       (m : Memories) (own : ℕ) → Sized r m
-      → Gives (reserve_ w k mode (rustAt mode r m own len) len live entered) (placeOf w j entered mode r len) m
+      → Gives (reserve_ w k mode (rustAt mode r m own len) len live entered) (reserve-moves w k mode (rustAt mode r m own len) len live entered)
+      (placeOf w j entered mode r len) m
 
   -- where no more change is made, with any number of calls and of changes allowed
   place-back : (r : BufferPool) (j : ℕ) → backFits w r len ≡ true → placeOf w j false Back r len ≡ finish Back r [] len
@@ -55,18 +57,24 @@ module _ (w len : ℕ) where
 
   module _ (live k j : ℕ) (r : BufferPool) where
     back-settles : Ready w r → InBack w r len → r .«back_start» + r .«back_len» < w → Agrees live (suc k) j false Back r
-    unfolding reserve_ offered
+    unfolding reserve_ offered reserve-moves offered-moves
     back-settles R I l m own S =
         let e = back-fits w len r R I l in
-        rw (back-fits-is w r R (m .pool) (S .0) (omega (arith, I .fits)) len live e, place-back r j e)
+        let room : r .«raw_offset» + r .«raw_len» ≤ r .capacity = omega (arith, I .fits) in
+        rw (
+          back-fits-is w r R (m .pool) (S .0) room len live e,
+          back-fits-moves-is w r R (m .pool) (S .0) room len live e,
+          place-back r j e,
+        )
         (settled len r Back refl m S own (unmoved m))
 
     alloc-settles : Agrees live (suc k) j true Alloc r
-    unfolding reserve_ reserve-from-system-memory
+    unfolding reserve_ reserve-from-system-memory reserve-moves reserve-from-system-memory-moves
     alloc-settles m own S = rw (place-alloc r j) (go (ltb 0 (r .cursor)) refl)
       where
         go : (t : Bool) → ltb 0 (r .cursor) ≡ t
-            → Gives (reserve_ w (suc k) Alloc (rustAt Alloc r m own len) len live true) (finish Alloc r [] len) m
+            → Gives (reserve_ w (suc k) Alloc (rustAt Alloc r m own len) len live true)
+            (reserve-moves w (suc k) Alloc (rustAt Alloc r m own len) len live true) (finish Alloc r [] len) m
         go true e = rw e (system-gives len r m S own)
         go false e = rw e (system-gives len r m S own)
 
@@ -79,9 +87,10 @@ module _ (w len : ℕ) where
   module _ (k j : ℕ) where
     front-agrees : (entered : Bool) (f : PoolFront) (r : BufferPool) → Ready w r → InFront w r f 0
         → Agrees (r .live) (suc (suc k)) (suc j) entered (Front f) r
-    unfolding reserve_ placeOf layer
+    unfolding reserve_ reserve-moves placeOf layer
     front-agrees entered f r R I m own S =
-        layer-front w len (λ c q. reserve_ w (suc k) (q .mode) q len (r .live) c) (λ e q. placeOf w j e (q .mode) q len)
+        layer-front w len (λ c q. reserve_ w (suc k) (q .mode) q len (r .live) c)
+        (λ c q. reserve-moves w (suc k) (q .mode) q len (r .live) c) (λ e q. placeOf w j e (q .mode) q len)
         (λ q Q z. alloc-settles (r .live) k j (toAlloc q)) (λ q Q z c t. tail-settles (r .live) k j q Q z c t) r R f I m S own
 
     module _ (r : BufferPool) (R : Ready w r) (some : 0 < r .«back_len» → r .cursor ≡ 0 → 0 < r .live) where
@@ -90,15 +99,17 @@ module _ (w len : ℕ) where
       head-agrees z c h = front-agrees false _ (headCleared w r) (head-ready w r R c h) (head-in w r R c h z)
 
       back-agrees : (entered : Bool) → InBack w r 0 → Agrees (r .live) (suc (suc (suc k))) (suc (suc j)) entered Back r
-      unfolding reserve_ placeOf layer
+      unfolding reserve_ reserve-moves placeOf layer
       back-agrees entered I m own S =
-          layer-back w len (λ c q. reserve_ w (suc (suc k)) (q .mode) q len (r .live) c) (λ e q. placeOf w (suc j) e (q .mode) q len)
+          layer-back w len (λ c q. reserve_ w (suc (suc k)) (q .mode) q len (r .live) c)
+          (λ c q. reserve-moves w (suc (suc k)) (q .mode) q len (r .live) c) (λ e q. placeOf w (suc j) e (q .mode) q len)
           r R I m S own (λ l. some l (I .no-cursor)) (alloc-settles (r .live) (suc k) (suc j) (toAlloc r)) (head-agrees (I .no-cursor))
 
       alloc-agrees : (entered : Bool) → InAlloc r 0 → Agrees (r .live) (suc (suc (suc k))) (suc (suc j)) entered Alloc r
-      unfolding reserve_ placeOf layer
+      unfolding reserve_ reserve-moves placeOf layer
       alloc-agrees entered I m own S =
-          layer-alloc w len (λ c q. reserve_ w (suc (suc k)) (q .mode) q len (r .live) c) (λ e q. placeOf w (suc j) e (q .mode) q len)
+          layer-alloc w len (λ c q. reserve_ w (suc (suc k)) (q .mode) q len (r .live) c)
+          (λ c q. reserve-moves w (suc (suc k)) (q .mode) q len (r .live) c) (λ e q. placeOf w (suc j) e (q .mode) q len)
           r R I m S own (tail-settles (r .live) (suc k) (suc j) r R) head-agrees some entered
 
   mode-agrees : (k : ℕ) (r : BufferPool) → Ready w r → (0 < r .«back_len» → r .cursor ≡ 0 → 0 < r .live)
@@ -109,11 +120,11 @@ module _ (w len : ℕ) where
 
 -- ---- The reset
 
--- the run makes these moves, which do not lengthen the `Vec`, and leaves the Rust's pool of q
-record Resets (run : Run RustPool) (q : BufferPool) (moves : List Move) (m : Memories) : Type 0 where
+-- the run, with the Rust's moves, makes these, which do not lengthen the `Vec`, and leaves the Rust's pool of q
+record Resets (run : Run RustPool) (rusts : List Move) (q : BufferPool) (moves : List Move) (m : Memories) : Type 0 where
   bytes : Memories
   own : ℕ
-  leads : Leads moves m bytes
+  leads : Leads rusts moves m bytes
   size : Sized q bytes
   shorter : length (bytes .overflow) ≤ length (m .overflow)
   run-is : run ≡ done (rustOf q bytes own)
@@ -128,16 +139,24 @@ module _ (w : ℕ) (r : BufferPool) (m : Memories) (S : Sized r m) (own : ℕ) w
   at-mode mode = rustAt mode r m own (r .reserved)
 
   -- no byte is moved
-  unmoved-reset : {run : Run RustPool} (q : BufferPool) → Sized q m → run ≡ done (rustOf q m own) → Resets run q [] m
-  unmoved-reset q T e =
-      record { bytes = m; own = own; leads = leads-none m; size = T; shorter = le-refl (length (m .overflow)); run-is = e }
+  unmoved-reset : {run : Run RustPool} {rusts : List Move} (q : BufferPool) → Sized q m → run ≡ done (rustOf q m own) → rusts ≡ []
+      → Resets run rusts q [] m
+  unmoved-reset q T e none =
+      record {
+        bytes = m;
+        own = own;
+        leads = rw none (leads-none m);
+        size = T;
+        shorter = le-refl (length (m .overflow));
+        run-is = e;
+      }
 
   -- B and F
   reset-pool : r .«raw_offset» + r .«raw_len» ≤ r .capacity
       → Resets
       (with (move-raw-at-offset (used-to (innerOf r (m .pool)) 0) 0)
       (λ x. pool (back 0 0) Back x (system (m .overflow) (r .cursor) own) (r .reserved)))
-      (placed r Back 0 0 0 0) (within (r .«raw_offset») (r .«raw_len») 0) m
+      (move-raw-moves (innerOf r (m .pool)) 0) (placed r Back 0 0 0 0) (within (r .«raw_offset») (r .«raw_len») 0) m
   reset-pool h =
       let L = leads-within m (r .«raw_offset») (r .«raw_len») 0 (omega (arith, S .0)) (omega (arith, S .0)) in
       record {
@@ -157,34 +176,39 @@ module _ (w : ℕ) (r : BufferPool) (m : Memories) (S : Sized r m) (own : ℕ) w
         (system (m .overflow) (r .cursor) own) (r .reserved)
 
     reset-none : ltb (r .cursor) (r .capacity) ≡ true → r .cursor ≡ 0
-        → Resets (rust-reset w (at-mode Alloc))
+        → Resets (rust-reset w (at-mode Alloc)) (reset-moves Alloc (at-mode Alloc))
         (marked (placed r Back 0 0 0 0) (r .live) (replicate w 0) (replicate w 0) (r .serials) (r .given)) [] m
-    unfolding rust-reset reset-on
-    reset-none e z =
-        unmoved-reset _ S (rw (S .0, e, le-ltb 0 (r .cursor) (omega arith)) (ap (λ (l : ℕ). done (emptied l)) (sym (I .no-len))))
+    unfolding rust-reset reset-on reset-moves
+    reset-none e c =
+        let z : ltb 0 (r .cursor) ≡ false = le-ltb 0 (r .cursor) (omega arith) in
+        unmoved-reset _ S (rw (S .0, e, z) (ap (λ (l : ℕ). done (emptied l)) (sym (I .no-len)))) (rw (S .0, e, z) refl)
 
     -- A's frame goes in
     reset-in : r .cursor < r .capacity → 0 < r .cursor
-        → Resets (rust-reset w (at-mode Alloc)) (framed (placed r Back 0 0 0 0) Back 0 (r .cursor) (r .kept - r .cursor) 0 (r .reserved))
+        → Resets (rust-reset w (at-mode Alloc)) (reset-moves Alloc (at-mode Alloc)) (framed (placed r Back 0 0 0 0) Back 0 (r .cursor) (r .kept - r .cursor) 0 (r .reserved))
         (In (r .cursor) ∷ Down (r .cursor) (r .kept - r .cursor) ∷ []) m
-    unfolding rust-reset reset-on system-frame prepend-raw-data system-get-data-owned in-bounds
+    unfolding rust-reset reset-on reset-moves system-frame prepend-raw-data system-get-data-owned in-bounds
     reset-in e l =
         let c : r .cursor ≤ length (m .overflow) = omega (arith, I .fits, S .1) in
         let A = leads-in m (r .cursor) c (omega (arith, S .0)) in
         let n : Memories = memories (copied (m .overflow) 0 (r .cursor) (m .pool) 0) (m .overflow) in
         let rest : Memories = memories (n .pool) (drop (r .cursor) (m .overflow)) in
+        let shorter-than = lt-ltb (r .cursor) (length (m .pool)) (omega (arith, S .0)) in
+        let some = lt-ltb 0 (r .cursor) l in
         record {
           bytes = rest;
           own = 0;
           leads =
-              subst (λ (k : ℕ). Leads (In (r .cursor) ∷ Down (r .cursor) (k - r .cursor) ∷ []) m rest) (S .1)
-              (leads-append A (leads-down n (r .cursor) c) (omega arith));
+              rw (shorter-than, some)
+              (subst
+              (λ (k : ℕ). Leads (In (r .cursor) ∷ Down (r .cursor) (length (m .overflow) - r .cursor) ∷ []) (In (r .cursor) ∷ Down (r .cursor) (k - r .cursor) ∷ []) m rest)
+              (S .1) (leads-append A (leads-down n (r .cursor) c) (omega arith)));
           size = (A .pool-size ∙ S .0, length-drop (r .cursor) (m .overflow) ∙ ap (λ (k : ℕ). k - r .cursor) (S .1));
           shorter = omega (arith, length-drop (r .cursor) (m .overflow));
           run-is =
               rw (
-                lt-ltb (r .cursor) (length (m .pool)) (omega (arith, S .0)),
-                lt-ltb 0 (r .cursor) l,
+                shorter-than,
+                some,
                 le-leb (r .cursor) (length (m .overflow)) c,
                 length-take-le (r .cursor) (m .overflow) c,
                 le-leb (0 + r .cursor) (length (m .pool)) (omega (arith, S .0)),
@@ -195,23 +219,27 @@ module _ (w : ℕ) (r : BufferPool) (m : Memories) (S : Sized r m) (own : ℕ) w
 
     -- A stays
     reset-stays : ltb (r .cursor) (r .capacity) ≡ false
-        → Resets (rust-reset w (at-mode Alloc)) (placed r Alloc (r .«back_start») (r .«back_len») 0 (r .«raw_offset»)) [] m
-    unfolding rust-reset reset-on
-    reset-stays e = unmoved-reset _ S (rw (S .0, e) refl)
+        → Resets (rust-reset w (at-mode Alloc)) (reset-moves Alloc (at-mode Alloc)) (placed r Alloc (r .«back_start») (r .«back_len») 0 (r .«raw_offset»)) [] m
+    unfolding rust-reset reset-on reset-moves
+    reset-stays e = unmoved-reset _ S (rw (S .0, e) refl) (rw (S .0, e) refl)
 
   abbrev resetting-moves : List Move
   resetting-moves = resetMoves (resets r) (ltb (r .cursor) (r .capacity)) (eqb (r .cursor) 0) (r .mode) r
 
+  abbrev resetting-rusts : List Move
+  resetting-rusts = pick (resets-now (rustOf r m own)) (reset-moves (r .mode) (rustOf r m own)) []
+
   reset-agrees : Orderly w r
-      → Resets (pick (resets-now (rustOf r m own)) (rust-reset w (rustOf r m own)) (done (rustOf r m own))) (reset w r) resetting-moves m
-  unfolding reset resetOn resetMoves resets-now resets rust-reset reset-on
+      → Resets (pick (resets-now (rustOf r m own)) (rust-reset w (rustOf r m own)) (done (rustOf r m own))) resetting-rusts (reset w r) resetting-moves m
+  unfolding reset resetOn resetMoves resets-now resets rust-reset reset-on reset-moves
   reset-agrees O =
       go (resets r) (ltb (r .cursor) (r .capacity)) refl (eqb (r .cursor) 0) refl (r .mode) refl (kept-fit w r O .1)
     where
       go : (a t : Bool) → ltb (r .cursor) (r .capacity) ≡ t → (z : Bool) → eqb (r .cursor) 0 ≡ z
           → (mode : PoolMode) → r .mode ≡ mode → InMode w mode r 0
-          → Resets (pick a (rust-reset w (at-mode mode)) (done (at-mode mode))) (resetOn a t z mode w r) (resetMoves a t z mode r) m
-      go false t q z s mode e I = unmoved-reset r S (ap (λ (x : PoolMode). done (at-mode x)) (sym e))
+          → Resets (pick a (rust-reset w (at-mode mode)) (done (at-mode mode))) (pick a (reset-moves mode (at-mode mode)) [])
+          (resetOn a t z mode w r) (resetMoves a t z mode r) m
+      go false t q z s mode e I = unmoved-reset r S (ap (λ (x : PoolMode). done (at-mode x)) (sym e)) refl
       go true t q z s Back e I = reset-pool (omega (arith, I .fits))
       go true t q z s (Front f) e I = reset-pool (omega (arith, I .fits, I .bytes-within))
       go true true q true s Alloc e I = reset-none I q (eqb-true (r .cursor) 0 s)
@@ -251,24 +279,29 @@ module _ (w k : ℕ) (r : BufferPool) (len : ℕ) (O : Orderly w r) (m : Memorie
   abbrev fresh : BufferPool
   fresh = reset w r
 
-  resetting : Resets (pick (resets-now (rustOf r m own)) (rust-reset w (rustOf r m own)) (done (rustOf r m own))) fresh
-      (resetting-moves w r m S own) m
+  resetting : Resets (pick (resets-now (rustOf r m own)) (rust-reset w (rustOf r m own)) (done (rustOf r m own)))
+      (resetting-rusts w r m S own) fresh (resetting-moves w r m S own) m
   resetting = reset-agrees w r m S own O
 
-  abbrev reserving : ℕ → Run Reply
-  reserving live =
-      reserve_ w (suc (suc (suc k))) (fresh .mode) (rustAt (fresh .mode) fresh (resetting .bytes) (resetting .own) len) len live false
+  abbrev fresh-pool : RustPool
+  fresh-pool = rustAt (fresh .mode) fresh (resetting .bytes) (resetting .own) len
 
-  placing : Gives (reserving (r .live)) (placeOf w mostChanges false (fresh .mode) fresh len) (resetting .bytes)
+  abbrev Reserving : ℕ → Type 0
+  Reserving live =
+      Gives (reserve_ w (suc (suc (suc k))) (fresh .mode) fresh-pool len live false)
+      (reserve-moves w (suc (suc (suc k))) (fresh .mode) fresh-pool len live false)
+      (placeOf w mostChanges false (fresh .mode) fresh len) (resetting .bytes)
+
+  placing : Reserving (r .live)
   placing =
       let K = reset-keeps w r (O .ready) in
       let f = reset-fit w r O in
-      subst (λ (live : ℕ). Gives (reserving live) (placeOf w mostChanges false (fresh .mode) fresh len) (resetting .bytes)) (K .0)
+      subst Reserving (K .0)
       (mode-agrees w len k fresh (f .0) (K .1) (fresh .mode) (f .1) (resetting .bytes) (resetting .own) (resetting .size))
 
-  placing-leads : Leads (place w r len .moves) m (placing .bytes)
-  unfolding place
-  placing-leads = leads-append (resetting .leads) (placing .made .0) (omega (arith, resetting .shorter))
+  placing-leads : Leads (rust-reserve-moves w (suc (suc (suc k))) (rustOf r m own) len) (place w r len .moves) m (placing .bytes)
+  unfolding place rust-reserve-moves
+  placing-leads = rw (resetting .run-is) (leads-append (resetting .leads) (placing .made .0) (omega (arith, resetting .shorter)))
 
   placing-leaves : Leaves (rust-reserve w (suc (suc (suc k))) (rustOf r m own) len) (decided (place w r len))
       (Mirrors (place w r len .next) (placing .bytes))
@@ -289,7 +322,21 @@ pub rust-agrees : (w k : ℕ) (r : BufferPool) (m : Memories) (p : RustPool) (le
     (Mirrors (place w r len .next) (heapPerform (place w r len .moves) m))
 rust-agrees w k r m p len O M =
     let S : Sized r m = (M .pool-size, M .heap-size) in
-    rw (M .is, placing-leads w k r len O m S (M .own) .heap) (placing-leaves w k r len O m S (M .own))
+    rw (M .is, leads-heap (placing-leads w k r len O m S (M .own))) (placing-leaves w k r len O m S (M .own))
+
+-- W-203: the moves that a reserve decides on are "the Rust's, in its order, less those to the start where the frame already lies in
+-- that memory"
+pub moves-agree : (w k : ℕ) (r : BufferPool) (m : Memories) (p : RustPool) (len : ℕ) → Orderly w r → Mirrors r m p
+    → place w r len .moves ≡ lessSelfCopies (rust-reserve-moves w (suc (suc (suc k))) p len)
+moves-agree w k r m p len O M = rw (M .is) (placing-leads w k r len O m (M .pool-size, M .heap-size) (M .own) .less)
+
+-- making either list leaves the same bytes, in both lent memories and in those with a `Vec`, whatever they hold
+pub moves-perform : (w k : ℕ) (r : BufferPool) (m : Memories) (p : RustPool) (len : ℕ) → Orderly w r → Mirrors r m p → (x : Memories)
+    → let rusts = rust-reserve-moves w (suc (suc (suc k))) p len in
+    (perform (place w r len .moves) x ≡ perform rusts x) × (heapPerform (place w r len .moves) x ≡ heapPerform rusts x)
+moves-perform w k r m p len O M x =
+    let rusts = rust-reserve-moves w (suc (suc (suc k))) p len in
+    rw (moves-agree w k r m p len O M) (less-performs rusts x, less-heap-performs rusts x)
 
 -- with a long enough overflow, the same moves made in the lent memories leave the bytes that the Rust leaves
 module _ (w : ℕ) (r : BufferPool) (m : Memories) (len : ℕ) (O : Orderly w r) (S : Sized r (heapOf r m))
@@ -300,12 +347,12 @@ module _ (w : ℕ) (r : BufferPool) (m : Memories) (len : ℕ) (O : Orderly w r)
   next-within : d .next .kept ≤ length (m .overflow)
   next-within = omega (arith, e, place-orderly w r len O fits .kept-within, place-overflow w r len)
 
-  pub moves-agree : heapPerform (d .moves) (heapOf r m) ≡ heapOf (d .next) (perform (d .moves) m)
-  moves-agree =
+  pub bytes-agree : heapPerform (d .moves) (heapOf r m) ≡ heapOf (d .next) (perform (d .moves) m)
+  bytes-agree =
       lent-bytes r (d .next) m (placing-leads w 0 r len O (heapOf r m) S 0) (omega (arith, e, O .kept-within)) next-within
       (placing-leaves w 0 r len O (heapOf r m) S 0 .holds .heap-size)
 
-  pub moves-sizes : (length (perform (d .moves) m .pool) ≡ length (m .pool)) × (length (perform (d .moves) m .overflow) ≡ length (m .overflow))
-  moves-sizes =
+  pub sizes-agree : (length (perform (d .moves) m .pool) ≡ length (m .pool)) × (length (perform (d .moves) m .overflow) ≡ length (m .overflow))
+  sizes-agree =
       lent-sizes r (d .next) m (placing-leads w 0 r len O (heapOf r m) S 0) (omega (arith, e, O .kept-within)) next-within
       (placing-leaves w 0 r len O (heapOf r m) S 0 .holds .heap-size)

@@ -31,13 +31,14 @@ use Rattle.buffer_pool.specs.Values.{refusal, values}
 use Rattle.buffer_pool.specs.Steps.{called, refused, frameOf, frame, reserveOn, reserveStep, resized, reframed, commitStep, truncateStep, handedOut, mostSerials, takeOn, takeStep, takeMoves, names, releaseStep}
 use Rattle.buffer_pool.specs.Calls.{Outcome, outcome, misfit, guarded, guardedCall, newOn, new, reserve, commit, truncate, copiedOut, take as taken, release, bytesAt, writtenIn, written}
 use Rattle.buffer_pool.specs.Rust.{Run, done, RustPool, InnerMemory, Slice, Pooled, Heap, took, pool, back, system, front-len, in-bounds, raw-data, system-commit, system-frame, system-get-data-owned, system-truncate, commit-raw, get-data-owned-on, memory-get-data-owned, rust-reserve, rust-commit-on, rust-commit, rust-truncate-on, rust-truncate, rust-take-on, rust-take, rust-release, rust-frame-on, rust-frame, rust-new}
+use Rattle.buffer_pool.specs.RustMoves.{lessSelfCopies, rust-reserve-moves}
 use Rattle.buffer_pool.specs.AsRust.{backOf, innerOf, rustAt, rustOf, heapOf, Stands, Leaves, Unrefused, AsRust, replyOf, sliceOf, rustWrittenIn, rustWritten}
 use Rattle.buffer_pool.proofs.Soundness.{sound-use}
 use Rattle.buffer_pool.proofs.Unchanged.{place-overflow}
 use Rattle.buffer_pool.proofs.Ranges.{orderly-claim}
-use Rattle.buffer_pool.proofs.HeapMoves.{Leads, leads-down, lent-bytes, lent-sizes}
+use Rattle.buffer_pool.proofs.HeapMoves.{Leads, leads-down, leads-heap, lent-bytes, lent-sizes}
 use Rattle.buffer_pool.proofs.RustLayers.{Sized}
-use Rattle.buffer_pool.proofs.RustAgrees.{rust-agrees, moves-agree, moves-sizes}
+use Rattle.buffer_pool.proofs.RustAgrees.{rust-agrees, moves-agree, bytes-agree, sizes-agree}
 
 -- ---- A call that is not refused: its record is sound, and its outcome is the call's own work
 
@@ -259,9 +260,9 @@ module _ {w : ℕ} {r : BufferPool} {m : Memories} {p : RustPool} (O : Orderly w
     down-moves zero h = absurd (omega arith)
     down-moves (suc n) h = refl
 
-    down-leads : Leads (takeMoves r (r .cursor)) (heapOf r m) (memories (m .pool) (drop (r .cursor) v))
+    down-leads : Leads (takeMoves r (r .cursor)) (takeMoves r (r .cursor)) (heapOf r m) (memories (m .pool) (drop (r .cursor) v))
     down-leads =
-        subst (λ (moves : List Move). Leads moves (heapOf r m) (memories (m .pool) (drop (r .cursor) v)))
+        subst (λ (moves : List Move). Leads moves moves (heapOf r m) (memories (m .pool) (drop (r .cursor) v)))
         (ap (λ (k : ℕ). Down (r .cursor) (k - r .cursor) ∷ []) (T .mirrors .heap-size) ∙ down-moves (r .cursor) l)
         (leads-down (heapOf r m) (r .cursor) (omega (arith, I .fits, T .mirrors .heap-size)))
 
@@ -276,7 +277,7 @@ module _ {w : ℕ} {r : BufferPool} {m : Memories} {p : RustPool} (O : Orderly w
         leaves (s .0 ∙ pool-size, (s .1 ∙ T .overflow-size, omega (arith, s .1, k))) 0
         (rw (le-leb (r .cursor) (length v) (omega (arith, I .fits, T .mirrors .heap-size)))
         (ap (λ (x : Memories). done (took (Heap (take (r .cursor) v)) (rustOf rest x 0)))
-        (sym (down-leads .heap) ∙ lent-bytes r rest m down-leads (fits .1 .1) k rest-size)))
+        (sym (leads-heap down-leads) ∙ lent-bytes r rest m down-leads (fits .1 .1) k rest-size)))
         (λ e. refl)
 
     -- the destination begins with them
@@ -341,8 +342,8 @@ module _ {w : ℕ} {r : BufferPool} {m : Memories} {p : RustPool} (O : Orderly w
             run-is = G .run-is;
             holds =
                 record {
-                  mirrors = rw (← moves-agree w r m len O S (T .overflow-size) e) (G .holds);
-                  overflow-size = moves-sizes w r m len O S (T .overflow-size) e .1 ∙ T .overflow-size ∙ sym (place-overflow w r len);
+                  mirrors = rw (← bytes-agree w r m len O S (T .overflow-size) e) (G .holds);
+                  overflow-size = sizes-agree w r m len O S (T .overflow-size) e .1 ∙ T .overflow-size ∙ sym (place-overflow w r len);
                 };
           }
 
@@ -369,6 +370,20 @@ module _ (w : ℕ) (r : BufferPool) (m : Memories) (p : RustPool) (T : Stands r 
       let W = worked w r m [] (outcome (reserveStep w r len) (pick (tooLong (place w r len) len) m (perform (place w r len .moves) m)) []) u in
       subst (λ (o : Outcome). AsRust (rust-reserve w (suc (suc (suc k))) p len) (replyOf (values (o .call .answer))) o) (W .is)
       (reserve-agrees (W .orderly) T k len (W .unrefused))
+
+  -- W-203, what an unrefused reserve makes: the Rust's moves less the self copies
+  pub reserve-makes : (k len : ℕ) → Unrefused (reserve w r m len)
+      → reserve w r m len .memory ≡ perform (lessSelfCopies (rust-reserve-moves w (suc (suc (suc k))) p len)) m
+  unfolding reserve reserveStep reserveOn refusal
+  reserve-makes k len u =
+      let o : Bool → Outcome = λ t. outcome (reserveOn t r (place w r len)) (pick t m (perform (place w r len .moves) m)) [] in
+      let W = worked w r m [] (o (tooLong (place w r len) len)) u in
+      ap (λ (x : Outcome). x .memory) (sym (W .is)) ∙ go (W .orderly) (tooLong (place w r len) len) (W .unrefused)
+    where
+      go : Orderly w r → (t : Bool) → refusal (reserveOn t r (place w r len) .answer) ≡ 0
+          → pick t m (perform (place w r len .moves) m) ≡ perform (lessSelfCopies (rust-reserve-moves w (suc (suc (suc k))) p len)) m
+      go O true e = absurd (omega (arith, e))
+      go O false e = ap (λ (l : List Move). perform l m) (moves-agree w k r (heapOf r m) p len O (T .mirrors))
 
   pub commit-as-rust : (n : ℕ) → Unrefused (commit w r m n) → AsRust (rust-commit p n) (λ q. q) (commit w r m n)
   unfolding commit

@@ -1,8 +1,8 @@
--- What each function of the Rust gives on a ready record: the SPECIFICATION's word for it, and no panic. Every index is that of a
--- slot, every range lies in the pool, and every difference is one. Assumes nothing.
+-- What each function of the Rust gives and moves on a ready record: the SPECIFICATION's word for it, and no panic. Every index is
+-- that of a slot, every range lies in the pool, and every difference is one. Assumes nothing.
 use mathlib.Core.Path.{_≡_, refl, sym, ap, _∙_}
 use mathlib.Core.Bool.{Bool, true, false, _&&_, _||_}
-use mathlib.Core.List.{List}
+use mathlib.Core.List.{List, []}
 use mathlib.Core.Logic.{_⊎_, inl, inr}
 use Prim.Native.Nat.{ℕ, zero, suc, _+_, _-_, _/_, _^_, _≤_, _<_, max}
 use native.Mathlib.Nat.{add-comm, eq-zero-or-pos}
@@ -22,8 +22,10 @@ use Rattle.buffer_pool.specs.declared.buffer_pool.PoolFront.{PoolFront}
 use Rattle.buffer_pool.specs.declared.buffer_pool.PoolMode.the-variants.{Back, Alloc}
 use Rattle.buffer_pool.specs.Record.{after}
 use Rattle.buffer_pool.specs.Placing.{drops, clearable, tailStart, tailFits, tailCleared, frontSlots, frontBytes, headFits, headCleared, backFits, frontFits, frontLast, frontStart, shorter, frontCleared}
+use Rattle.buffer_pool.specs.Moves.{Move}
 use Rattle.buffer_pool.specs.Sound.{Ready, InFront}
 use Rattle.buffer_pool.specs.Rust.{done, then, with, Result, ok, err, InnerMemory, Backed, backed, Fronted, fronted, raw, used-to, in-bounds, raw-offset-from-len, front-end-of, front-end, copy-within, move-raw-on, move-raw-at-offset, try-change-len, has-tail-capacity, has-capacity-until-offset, reserve-raw, element-to-drop, tail-is-clearable, back-offset, clear-tail-to, try-clear-tail-on, try-clear-tail-unchecked, boundary, try-clear-head-on, try-clear-head, clear-unchecked, back-has-capacity, back-offers, back-cleared, back-reserve, front-drop-to, front-try-clear-tail-on, front-try-clear-tail, front-cleared, front-clear, front-reserve}
+use Rattle.buffer_pool.specs.RustMoves.{moves-after, move-raw-moves, told-moves, try-clear-tail-moves, back-reserve-moves, front-reserve-moves}
 use Rattle.buffer_pool.specs.AsRust.{backOf, innerOf}
 use Rattle.buffer_pool.proofs.Rules.{clear-drops, clear-full, tail-room, tail-fits, front-start}
 use Rattle.buffer_pool.proofs.HeapMoves.{moved-none, length-moved}
@@ -300,6 +302,34 @@ module _ (w : ℕ) (r : BufferPool) (R : Ready w r) where
         go false p true e false u true v = rw (clear-unchecked-is e (some-live e), u, v) refl
         go false p true e false u false v = rw (clear-unchecked-is e (some-live e), u, v) refl
 
+    -- its moves: fits? clearable? tail clear?
+    abbrev pub back-moves : Bool → Bool → Bool → List Move
+    back-moves true c t = []
+    back-moves false false t = []
+    back-moves false true true = move-raw-moves (innerOf r bytes) (tailStart w r)
+    back-moves false true false = []
+
+    pub try-clear-tail-moves-is : clearable w r ≡ true → (t : Bool) → tailFits w r len ≡ t
+        → try-clear-tail-moves w (backOf r) (innerOf r bytes) (r .live) len ≡ back-moves false true t
+    unfolding try-clear-tail-moves
+    try-clear-tail-moves-is c true e = rw (try-clear-tail-is c, e) refl
+    try-clear-tail-moves-is c false e = rw (try-clear-tail-is c, e) refl
+
+    pub back-fits-moves-is : (live : ℕ) → backFits w r len ≡ true → back-reserve-moves w (backOf r) (innerOf r bytes) live len ≡ []
+    unfolding back-reserve-moves
+    back-fits-moves-is live p = rw (has-is, p) refl
+
+    pub back-reserve-moves-is : back-reserve-moves w (backOf r) (innerOf r bytes) (r .live) len
+        ≡ back-moves (backFits w r len) (clearable w r) (tailFits w r len)
+    unfolding back-reserve-moves
+    back-reserve-moves-is = rw (has-is, clearable-is) (go (backFits w r len) (clearable w r) refl)
+      where
+        go : (a c : Bool) → clearable w r ≡ c
+            → pick a [] (pick c (try-clear-tail-moves w (backOf r) (innerOf r bytes) (r .live) len) []) ≡ back-moves a c (tailFits w r len)
+        go true c e = refl
+        go false false e = refl
+        go false true e = try-clear-tail-moves-is e (tailFits w r len) refl
+
   -- ---- The front's reserve
 
   module _ (f : PoolFront) (I : InFront w r f 0) (bytes : List ℕ) (size : length bytes ≡ r .capacity) where
@@ -414,3 +444,23 @@ module _ (w : ℕ) (r : BufferPool) (R : Ready w r) where
               let k = leb-true (r .«raw_offset» + r .«raw_len» + len) (f .«byte_capacity») (ltb-and (f .len) (f .«back_start») p .1) in
               rw (reserve-raw-is (innerOf r bytes) len (omega (arith, I .bytes-within))) refl
           go false p = refl
+
+      -- its moves: fits? drops a slot?
+      abbrev pub front-moves : Bool → Bool → List Move
+      front-moves true d = []
+      front-moves false true = move-raw-moves (innerOf r bytes) (frontStart w r f)
+      front-moves false false = []
+
+      pub front-reserve-moves-is : front-reserve-moves w f (innerOf r bytes) (r .live) len ≡ front-moves fits-now drops-one
+      unfolding front-reserve-moves has-capacity-until-offset frontFits
+      front-reserve-moves-is = go fits-now (ltb 0 (f .len)) refl drops-one refl
+        where
+          go : (a b : Bool) → ltb 0 (f .len) ≡ b → (d : Bool) → ltb (frontLast w r f) (f .len) ≡ d
+              → pick a []
+              (pick b (moves-after (front-try-clear-tail w f (innerOf r bytes) (r .live)) (λ t. told-moves (innerOf r bytes) (t .value) (t .memory))) [])
+              ≡ front-moves a d
+          go true b e d p = refl
+          go false false e true p = absurd (omega (arith, ltb-false 0 (f .len) e, ltb-true (frontLast w r f) (f .len) p))
+          go false false e false p = refl
+          go false true e true p = rw (front-try-clear-tail-is (ltb-true 0 (f .len) e), p) refl
+          go false true e false p = rw (front-try-clear-tail-is (ltb-true 0 (f .len) e), p) refl

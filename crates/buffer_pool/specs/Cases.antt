@@ -13,12 +13,14 @@ use Rattle.buffer_pool.specs.declared.buffer_pool.Memory.the-variants.{P
 use Rattle.buffer_pool.specs.declared.buffer_pool.Place.{Place}
 use Rattle.buffer_pool.specs.declared.buffer_pool.Answer.the-variants.{Done}
 use Rattle.buffer_pool.specs.Record.{slotCount, startAt}
-use Rattle.buffer_pool.specs.Moves.{Memories, memories}
+use Rattle.buffer_pool.specs.Moves.{Memories, memories, Move, Within, Out, Grow}
+use Rattle.buffer_pool.specs.Placing.{place}
 use Rattle.buffer_pool.specs.Values.{values}
 use Rattle.buffer_pool.specs.Steps.{at, reservation}
 use Rattle.buffer_pool.specs.Calls as calls
 use Rattle.buffer_pool.specs.Calls.{Outcome, bytesAt}
 use Rattle.buffer_pool.specs.Rust.{Run, done, panic, RustPool, Reply, Took, pool, raw, system, rust-new, rust-reserve, rust-commit, rust-truncate, rust-take, rust-release}
+use Rattle.buffer_pool.specs.RustMoves.{rust-reserve-moves}
 
 -- ---- The table's words
 
@@ -120,6 +122,34 @@ table =
 unfoldable pub twice : Case
 twice = new 16 20 (quietly (slice 6) ++ ((Release 1 ▸ Number 0 ∷ []) ∷ (Release 1 ▸ Number 7 ∷ []) ∷ []))
 
+-- ---- The moves of a reserve, SPECIFICATION 6.9
+
+-- the calls before it, its length, the Rust's moves and ours
+pub record MoveCase : Type 0 where
+  pub before : Case
+  pub len : ℕ
+  pub rusts : List Move
+  pub ours : List Move
+
+abbrev pub moving : Case → ℕ → List Move → List Move → MoveCase
+moving before len rusts ours = record { before = before; len = len; rusts = rusts; ours = ours }
+
+-- d 3 .. d 8
+abbrev pub backReleased : List CaseCall
+backReleased = Release 3 ∷ Release 4 ∷ Release 5 ∷ Release 6 ∷ Release 7 ∷ Release 8 ∷ []
+
+unfoldable pub moveTable : List MoveCase
+moveTable =
+    -- 11.22: a reset, with the frame at 0
+    moving (octetInFront (quietly backReleased)) 2 (Within 0 3 0 ∷ []) []
+    -- 11.23: a tail clear, with the frame at the tail start
+    ∷ moving (octetInFront (quietly (Take ∷ Reserve 1 ∷ Commit 1 ∷ backReleased))) 2 (Within 3 1 3 ∷ []) []
+    -- 11.24: the reset of 11.22, then out
+    ∷ moving (octetInFront (quietly backReleased)) 15 (Within 0 3 0 ∷ Out 0 3 ∷ Grow 3 18 ∷ []) (Out 0 3 ∷ Grow 3 18 ∷ [])
+    -- 11.25: that of 11.16, to another start
+    ∷ moving (octetInFront (quietly (Release 7 ∷ Release 8 ∷ []))) 2 (Within 0 3 12 ∷ []) (Within 0 3 12 ∷ [])
+    ∷ []
+
 -- ---- What a call showed
 
 pub record Seen : Type 0 where
@@ -193,6 +223,16 @@ unfoldable pub shownBy : Case → List (List Fact)
 shownBy c =
     let o : Outcome = calls.new slotCount (memories (strange (c .capacity)) (strange (c .overflow))) in
     playAll (o .call .pool) (o .memory) (c .lines)
+
+-- the record after the lines, and the moves that a reserve then decides on
+unfoldable pub playTo : BufferPool → Memories → List Line → BufferPool
+playTo r m [] = r
+playTo r m (l ∷ rest) = let o : Outcome = play r m (l .call) in playTo (o .call .pool) (o .memory) rest
+
+unfoldable pub movesBy : MoveCase → List Move
+movesBy c =
+    let o : Outcome = calls.new slotCount (memories (strange (c .before .capacity)) (strange (c .before .overflow))) in
+    place slotCount (playTo (o .call .pool) (o .memory) (c .before .lines)) (c .len) .moves
 
 unfoldable pub wanted : Case → List (List Fact)
 wanted c = map (λ (l : Line). l .facts) (c .lines)
@@ -278,3 +318,10 @@ rustPlayAll r (l ∷ rest) =
 
 unfoldable pub rustShownBy : Case → List (List Fact)
 rustShownBy c = rustPlayAll (rust-new slotCount (c .capacity)) (c .lines)
+
+unfoldable pub rustPlayTo : RustPool → List Line → RustPool
+rustPlayTo r [] = r
+rustPlayTo r (l ∷ rest) = rustPlayTo (rustPlay r (l .call) .left) rest
+
+unfoldable pub rustMovesBy : MoveCase → List Move
+rustMovesBy c = rust-reserve-moves slotCount 3 (rustPlayTo (rust-new slotCount (c .before .capacity)) (c .before .lines)) (c .len)

@@ -11,6 +11,7 @@ pub mod Steps
 pub mod Calls
 pub mod Vocabulary
 pub mod Rust
+pub mod RustMoves
 pub mod AsRust
 pub mod Causes
 pub mod Together

@@ -1,8 +1,9 @@
 -- The byte moves of a call (SPECIFICATION 6), and what each leaves in the two lent memories: every byte of both is determined.
 use mathlib.Core.List.{List, [], _∷_}
-use mathlib.Core.Bool.{Bool, true, _&&_}
-use Prim.Native.Nat.{ℕ, zero, suc, _+_}
-use lib.Dec.{leb}
+use mathlib.Core.Bool.{Bool, true, _&&_, _||_}
+use Prim.Native.Nat.{ℕ, _+_}
+use lib.Dec.{leb, eqb}
+use Rattle.laws.specs.Tests.{pick}
 use Rattle.laws.specs.Lists.{copied, moved, zeroed}
 
 -- the pool memory and the overflow (SPECIFICATION 1.1)
@@ -38,10 +39,9 @@ unfoldable pub perform : List Move → Memories → Memories
 perform [] m = m
 perform (a ∷ rest) m = perform rest (act m a)
 
--- the move of a frame within the pool; none for an empty frame: the Rust's `move_raw_at_offset`
+-- W-203, the move of a frame within the pool: none for an empty frame, and none "to the start where the frame already lies"
 abbrev pub within : ℕ → ℕ → ℕ → List Move
-within start zero to = []
-within start (suc l) to = Within start (suc l) to ∷ []
+within start len to = pick (eqb len 0 || eqb start to) [] (Within start len to ∷ [])
 
 -- do the places of a move lie in memories of these lengths (pool, overflow)?
 unfoldable pub inside : ℕ → ℕ → Move → Bool

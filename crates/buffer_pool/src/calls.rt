@@ -169,7 +169,7 @@ impl BufferPool {
 
     // Room for `len` more bytes after the frame: gives the reservation's place and how often the mode changed. Refuses with 1, 2,
     // and with 4 if the overflow would be used and is too short for frame and reservation. Bytes move only once that is known.
-    // A reserve that moves no byte is found by a few tests and needs no list of moves.
+    // Most reserves that move no byte are found by a few tests and need no list of moves.
     pub fn reserve(self, pool: &mut [u8], overflow: &mut [u8], len: u64) -> Called
         ensures { λ r. ⌜ spec.outcome r (memories (now (pool .exit)) (now (overflow .exit))) [] ≡ spec.reserve slotCount self (memories (now (pool .entry)) (now (overflow .entry))) len ⌝ }
     {

@@ -1,7 +1,9 @@
 // The byte moves that a reserve decides on, in their order. They are made once the whole decision is known.
 ghost use mathlib.Core.Path.{_≡_};
+ghost use mathlib.Core.Bool.{_||_};
 ghost use mathlib.Core.List.{[], _∷_, _++_};
 ghost use Prim.Native.Nat.{_+_, _≤_, _<_};
+ghost use lib.Dec.{eqb};
 ghost use Rattle.buffer_pool.specs.Moves.{within};
 ghost use Rattle.buffer_pool.specs.MoveList.{moveOf, byteMove, listed};
 
@@ -26,6 +28,16 @@ pub struct ByteMove {
 pub struct Moves {
     pub count: usize,
     pub items: [ByteMove; 7],
+}
+
+// Is there nothing to move when a frame is sent to `to`? So it is if the frame is empty, or already lies there.
+fn is_unmoved(start: u64, len: u64, to: u64) -> bool
+    ensures { λ r. ⌜ r ≡ (eqb len 0 || eqb start to) ⌝ }
+{
+    if len == 0 {
+        return true;
+    }
+    start == to
 }
 
 impl Moves {
@@ -64,12 +76,12 @@ impl Moves {
         }
     }
 
-    // The move of a frame within the pool; none for an empty frame.
+    // The move of a frame within the pool; none for an empty frame, or one that already lies there.
     pub(crate) fn within(self, start: u64, len: u64, to: u64) -> Self
         requires { ⌜ self .count < 7 ⌝ }
         ensures { λ r. ⌜ (listed r ≡ listed self ++ within start len to) × (r .count ≤ self .count + 1) ⌝ }
     {
-        if len == 0 {
+        if is_unmoved(start, len, to) {
             return self;
         }
         self.push(MoveKind::Within, start, len, to)

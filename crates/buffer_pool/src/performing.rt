@@ -1,4 +1,4 @@
-// The moves made: each byte once per move of the Rust's, in its order.
+// The moves made: each byte once per move of the list, in its order.
 ghost use mathlib.Core.Path.{_≡_};
 ghost use mathlib.Core.Bool.{true};
 ghost use lib.ListN.{length};

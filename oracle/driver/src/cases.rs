@@ -4,6 +4,7 @@
 use crate::classes::Tally;
 use crate::generate;
 use crate::judge::{Answer, Judge};
+use crate::moves::Move;
 use crate::text;
 
 /// Capacity 17, overflow 20, eight slices of 2 bytes taken.
@@ -134,6 +135,23 @@ fn the_overflow_keeps_what_a_take_leaves() {
 #[test]
 fn a_second_release_is_refused() {
     assert_eq!(done("pool 16 overflow 20\nr 6; c 6; t\nd 1; d 1").refusals(2), [0, 7]);
+}
+
+/// The moves of the frame in the Rust's last reserve, of SPECIFICATION 11.22 to 11.25: kind, from,
+/// length, to.
+#[test]
+fn a_frame_moves_and_is_copied_onto_itself() {
+    let moves = |events: &str| {
+        let done = octet(events);
+        let tuple = |a: &Move| (a.kind, a.from, a.len, a.to);
+        done.last().moves.iter().map(tuple).collect::<Vec<_>>()
+    };
+    let back = "d 3; d 4; d 5; d 6; d 7; d 8";
+    let front = "d 1; d 2; r 3; c 3";
+    assert_eq!(moves(&format!("{front}; {back}; r 2")), [('w', 0, 3, 0)]);
+    assert_eq!(moves(&format!("{front}; t; r 1; c 1; {back}; r 2")), [('w', 3, 1, 3)]);
+    assert_eq!(moves(&format!("{front}; {back}; r 15")), [('w', 0, 3, 0), ('o', 0, 3, 0)]);
+    assert_eq!(moves(&format!("{front}; d 7; d 8; r 2")), [('w', 0, 3, 12)]);
 }
 
 /// The listing of SPECIFICATION 12, as it stands there; trace.rs asks the Rust for it. Its last

@@ -5,6 +5,7 @@
 
 use crate::calls::{Event, List, View, BYTE_LIMIT};
 use crate::judge::{Answer, Judge, Situation};
+use crate::moves::Move;
 use crate::record::{Mode, Record, SLOTS};
 use std::cmp::Ordering;
 
@@ -66,6 +67,9 @@ const CLASSES: &[&str] = &[
     // Where the front puts the frame when it drops its own freed slots.
     "F drops, frame to 0",
     "F drops, frame after a live slot",
+    // Where the Rust copies the frame onto itself (SPECIFICATION 6.9).
+    "self copy, F reset",
+    "self copy, F->B",
     // No live slot, and yet no reset, as n is 0: a reset would have moved the frame.
     "B, no live slot, no reset, frame not at 0",
     "A, no live slot, no reset, frame shorter than the pool",
@@ -317,7 +321,10 @@ fn front_end(at: &Situation) -> usize {
 /// What a done reserve did.
 fn reserve(before: &Situation, len: u64, answer: &Answer, judge: &Judge) -> Vec<String> {
     let after = judge.situation();
-    let mut names = vec![move_class(before, len, &after, answer.changes)];
+    let moves = moves_told(before, len, &after, answer.changes);
+    let mut names = vec![move_class(before, &after, answer.changes, moves)];
+    names.extend(other_moves(before, &after, moves, answer));
+    names.extend(self_copy(before, &after, &answer.moves));
     names.extend(overflow_cause(before, &after, answer.changes));
     names.extend(clears(before, &after, answer.changes));
     names.extend(front_drop(before, len));
@@ -325,10 +332,9 @@ fn reserve(before: &Situation, len: u64, answer: &Answer, judge: &Judge) -> Vec<
     names
 }
 
-/// The class of a reserve by its modes, reset, changes and moves.
-fn move_class(before: &Situation, len: u64, after: &Situation, changes: u32) -> String {
-    let reset = resets(before);
-    let moves = match (letter(before), reset, letter(after), changes) {
+/// The moves of a reserve, as the numbers tell them.
+fn moves_told(before: &Situation, len: u64, after: &Situation, changes: u32) -> &'static str {
+    match (letter(before), resets(before), letter(after), changes) {
         (_, _, _, 2) => "by way of F",
         ('A', true, 'A', 0) => "stays",
         ('A', true, 'A', _) => "in out",
@@ -344,9 +350,75 @@ fn move_class(before: &Situation, len: u64, after: &Situation, changes: u32) -> 
         (_, _, 'F', 1) => "head clear",
         ('A', _, 'B', _) => "tail clear",
         _ => "none",
-    };
-    let reset = if reset { " reset" } else { "" };
+    }
+}
+
+/// The class of a reserve by its modes, reset, changes and moves.
+fn move_class(before: &Situation, after: &Situation, changes: u32, moves: &str) -> String {
+    let reset = if resets(before) { " reset" } else { "" };
     format!("{}{reset}->{} {changes} {moves}, {}", letter(before), letter(after), frame(before))
+}
+
+/// What the Rust moved, where it is not what the numbers tell: that is of no known class.
+fn other_moves(
+    before: &Situation,
+    after: &Situation,
+    told: &str,
+    answer: &Answer,
+) -> Option<String> {
+    let kinds: String = answer.moves.iter().map(|a| a.kind).collect();
+    let enters_overflow = letter(after) == 'A' && answer.changes > 0;
+    let as_told = match (before.frame_len, told) {
+        (0, _) => kinds == if enters_overflow { "o" } else { "" },
+        (_, "within") => kinds == "w",
+        (_, "within twice") => kinds == "ww",
+        (_, "within out") => kinds == "wo",
+        (_, "out") => kinds == "o",
+        (_, "in") => kinds == "i",
+        (_, "in out") => kinds == "io",
+        _ => kinds.is_empty(),
+    };
+    let as_told = as_told && leads(before, after, &answer.moves);
+    (!as_told).then(|| format!("{told}, but the Rust moved {:?}", answer.moves))
+}
+
+/// Whether the moves lead the frame, with its length, from where it lies before to where it lies after.
+/// An empty frame also goes without a move.
+fn leads(before: &Situation, after: &Situation, moves: &[Move]) -> bool {
+    let len = before.frame_len;
+    if len == 0 {
+        return moves.iter().all(|a| a.len == 0);
+    }
+    let mut place = frame_place(before);
+    for a in moves {
+        let (from, to) = match a.kind {
+            'w' => (('p', a.from), ('p', a.to)),
+            'i' => (('o', a.from), ('p', a.to)),
+            _ => (('p', a.from), ('o', a.to)),
+        };
+        if place != from || a.len != len {
+            return false;
+        }
+        place = to;
+    }
+    place == frame_place(after)
+}
+
+/// The memory in which the frame lies, pool or overflow, and its start there.
+fn frame_place(at: &Situation) -> (char, usize) {
+    match at.record.mode {
+        Mode::Overflow => ('o', 0),
+        _ => ('p', at.record.frame_start),
+    }
+}
+
+/// Where the Rust copied the frame onto itself. Other copies onto itself are of no known class.
+fn self_copy(before: &Situation, after: &Situation, moves: &[Move]) -> Option<String> {
+    let step = match (letter(before), resets(before)) {
+        (mode, true) => format!("{mode} reset"),
+        (mode, false) => format!("{mode}->{}", letter(after)),
+    };
+    moves.iter().any(Move::is_self_copy).then(|| format!("self copy, {step}"))
 }
 
 /// Why an empty frame went to the overflow or stays there, if no reset came first.

@@ -2,6 +2,7 @@
 
 use crate::calls::{Event, View};
 use crate::changes;
+use crate::moves::{self, Move};
 use crate::record::{mask, slot_of, Mode, Pool, Record, SLOTS};
 use buffer_sv2::{Buffer, Slice};
 
@@ -11,13 +12,15 @@ pub const COMMIT_TOO_LONG: u8 = 5;
 pub const DESTINATION_TOO_SHORT: u8 = 6;
 pub const NOT_LIVE: u8 = 7;
 
-/// What an event gave: a refusal number or 0, a place, and at a reserve the count of mode changes.
+/// What an event gave: a refusal number or 0, a place, and at a reserve the count of mode changes and
+/// the moves of the frame.
 #[derive(Debug, Default, PartialEq)]
 pub struct Answer {
     pub refusal: u8,
     pub start: usize,
     pub len: usize,
     pub changes: u32,
+    pub moves: Vec<Move>,
     /// The frame that a take copied out of the overflow.
     pub copied: Vec<u8>,
 }
@@ -117,16 +120,17 @@ impl Judge {
             return Answer::refused(OVERFLOW_TOO_SHORT);
         }
         changes::take();
+        moves::take();
         let offer = self.pool.reserve(len as usize);
         (self.offer, self.reserved) = (offer.as_mut_ptr(), offer.len());
-        let changes = changes::take();
+        let (changes, moves) = (changes::take(), moves::take());
         let (frame, end) = (self.pool.frame(), self.frame_end());
         assert_eq!(
             self.offer as *const u8,
             frame.as_ptr_range().end,
             "the offer extends the frame"
         );
-        Answer { changes, ..Answer::place((end, self.reserved)) }
+        Answer { changes, moves, ..Answer::place((end, self.reserved)) }
     }
 
     /// Whether a reserve would end in the overflow: a twin tries it. A length above the capacity

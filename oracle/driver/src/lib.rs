@@ -9,6 +9,7 @@ mod changes;
 pub mod classes;
 pub mod generate;
 pub mod judge;
+mod moves;
 pub mod random;
 pub mod record;
 pub mod text;

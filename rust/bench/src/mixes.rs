@@ -128,6 +128,9 @@ impl Draft {
 /// The length of a small entry.
 const ENTRY: usize = 32;
 
+/// The unit of large frames.
+const K: usize = 1024;
+
 /// Reserve, commit, take, release in turn.
 fn back_only() -> Mix {
     let mut draft = Draft::new("back only", 1024, 1024);
@@ -194,7 +197,6 @@ fn overflow() -> Mix {
 
 /// Frames of 12 to 24 KiB that are moved from the front to the back, by a reset, and to the overflow.
 fn large_frames() -> Mix {
-    const K: usize = 1024;
     let mut draft = Draft::new("large frames that move", 128 * K, 128 * K);
     for _ in 0..60 {
         (0..8).for_each(|_| draft.entry(8 * K));
@@ -207,6 +209,28 @@ fn large_frames() -> Mix {
         draft.entry(8 * K);
         draft.gather(24 * K);
         draft.entry(100 * K);
+        draft.release(1..=8);
+    }
+    draft.mix
+}
+
+/// Frames of 20 KiB in the front that already lie where the next reserve sends them: at 0, by a reset,
+/// and after a held slice, by the clear of the tail.
+fn large_frames_in_place() -> Mix {
+    let mut draft = Draft::new("large frames sent to their own start", 64 * K, 64 * K);
+    for _ in 0..60 {
+        draft.entry(28 * K);
+        (0..7).for_each(|_| draft.entry(ENTRY));
+        draft.release(1..=1);
+        draft.gather(20 * K);
+        draft.release(2..=8);
+        draft.entry(8 * K);
+        (0..7).for_each(|_| draft.entry(ENTRY));
+        draft.release(1..=2);
+        draft.entry(ENTRY);
+        draft.gather(20 * K);
+        draft.release(3..=8);
+        draft.entry(10 * K);
         draft.release(1..=8);
     }
     draft.mix
@@ -248,6 +272,7 @@ pub fn mixes() -> Vec<Mix> {
         front_and_back(),
         overflow(),
         large_frames(),
+        large_frames_in_place(),
         replayed("trace of 65,536 bytes, pool of 40", 40, 60),
         replayed("trace of 65,536 bytes, pool of 16,384", 16_384, 16_384),
     ]
