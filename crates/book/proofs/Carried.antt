@@ -25,7 +25,7 @@ use Rattle.buffer_pool.proofs.Parts.{weaken}
 use Rattle.buffer_pool.proofs.Rules.{tail-in}
 use Rattle.buffer_pool.proofs.Unchanged.{Fixed, fixed}
 use Rattle.buffer_pool.proofs.Ranges.{Apart, before, behind}
-use Rattle.buffer_pool.proofs.HeapMoves.{perform-append, perform-within}
+use Rattle.buffer_pool.proofs.MovesMade.{perform-append, perform-within}
 
 -- ---- What a list of moves carries
 

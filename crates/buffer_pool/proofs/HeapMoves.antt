@@ -1,43 +1,34 @@
 -- The moves on the Rust's `Vec` and on the lent overflow leave the same bytes, as long as the overflow begins with the bytes of
--- the `Vec` and is at least as long: each move keeps that, so a list of moves does; and a copy onto itself leaves every byte.
--- Assumes nothing.
+-- the `Vec` and is at least as long: each move keeps that, so a list of moves does. Assumes nothing.
 use mathlib.Core.Path.{_≡_, refl, sym, ap, ap₂, _∙_}
 use mathlib.Core.Bool.{Bool, true, false}
-use mathlib.Core.List.{List, [], _∷_, _++_, append-nil}
+use mathlib.Core.List.{List, [], _∷_, _++_}
 use Prim.Native.Nat.{ℕ, zero, suc, _+_, _-_, _≤_, _<_, max}
-use native.Mathlib.Nat.{zero-add, add-zero, sub-zero, zero-sub, suc-sub-suc}
+use native.Mathlib.Nat.{zero-add, sub-zero, zero-sub, suc-sub-suc}
 use native.Mathlib.Omega.{arith}
-use borrow.Author.Tests.{ltb-true, ltb-false, eqb-true, ne-eqb}
+use borrow.Author.Tests.{ltb-true, ltb-false}
 use lib.Dec.{ltb}
-use lib.ListN.{length, take, drop, replicate, length-append, length-take, length-drop, length-replicate, take-append-drop, drop-of-length-le}
-use lib.Seq.{take-add, length-take-le, take-nil, take-at, take-append-add}
+use lib.ListN.{length, take, drop, replicate, length-append, length-take, length-drop, length-replicate, drop-of-length-le}
+use lib.Seq.{length-take-le, take-nil, take-at, take-append-add}
 use Rattle.laws.specs.Tests.{pick}
 use Rattle.laws.specs.Lists.{part, copied, moved, zeroed}
-use Rattle.laws.proofs.Tests.{no-true}
 use Rattle.laws.proofs.Lists.{length-part, part-take}
 use Rattle.laws.proofs.Copies.{length-copied}
 use Rattle.buffer_pool.specs.declared.buffer_pool.BufferPool.{BufferPool}
-use Rattle.buffer_pool.specs.Moves.{Memories, memories, Move, Within, In, Down, Out, Grow, act, perform, within}
+use Rattle.buffer_pool.specs.Moves.{Memories, memories, Move, In, Down, Out, act, perform, within}
 use Rattle.buffer_pool.specs.Placing.{grows}
 use Rattle.buffer_pool.specs.Rust.{resized}
 use Rattle.buffer_pool.specs.RustMoves.{selfCopy, lessSelfCopies, move-raw-on-moves}
 use Rattle.buffer_pool.specs.AsRust.{heapAct, heapPerform, heapOf}
+use Rattle.buffer_pool.proofs.ByteLaws.{moved-none}
+use Rattle.buffer_pool.proofs.MovesMade.{less-append, perform-append, heap-append, less-performs, less-heap-performs, less-within}
 
 -- ---- Lists
 
--- a copy to the start, a move of nothing, the rest of a front
+-- a copy to the start, the rest of a front
 at-start : (x : List ℕ) (s l : ℕ) (d : List ℕ) → copied x s l d 0 ≡ part x s l ++ drop l d
 unfolding copied
 at-start x s l d = rw (zero-add l) refl
-
-pub moved-none : (x : List ℕ) (s t : ℕ) → moved x s 0 t ≡ x
-unfolding moved copied part
-moved-none x s t = rw (append-nil (take t x), add-zero t) (take-append-drop t x)
-
--- a move to where the bytes are
-moved-self : (x : List ℕ) (s l t : ℕ) → s ≡ t → moved x s l t ≡ x
-unfolding moved copied part
-moved-self x s l t e = rw (← e, ← take-add s l x) (take-append-drop (s + l) x)
 
 pub length-moved : (x : List ℕ) (s l t : ℕ) → s + l ≤ length x → t + l ≤ length x → length (moved x s l t) ≡ length x
 unfolding moved
@@ -119,60 +110,6 @@ pub record Leads (rusts moves : List Move) (m n : Memories) : Type 0 where
   pub rust-lent : (x : Memories) → Covers x m → length (n .overflow) ≤ length (x .overflow)
       → Covers (perform rusts x) n × (length (perform rusts x .overflow) ≡ length (x .overflow))
 
-less-append : (a b : List Move) → lessSelfCopies (a ++ b) ≡ lessSelfCopies a ++ lessSelfCopies b
-unfolding lessSelfCopies
-less-append [] b = refl
-less-append (x ∷ a) b = go (less-append a b) (selfCopy x)
-  where
-    go : {l : List Move} → l ≡ lessSelfCopies a ++ lessSelfCopies b
-        → (same : Bool) → pick same l (x ∷ l) ≡ pick same (lessSelfCopies a) (x ∷ lessSelfCopies a) ++ lessSelfCopies b
-    go e true = e
-    go e false = ap (λ (l : List Move). x ∷ l) e
-
--- moves made one after the other, each of which leaves what `one` says
-module _ (run : List Move → Memories → Memories) (one : Memories → Move → Memories) (none : (m : Memories) → run [] m ≡ m)
-    (more : (a : Move) (l : List Move) (m : Memories) → run (a ∷ l) m ≡ run l (one m a)) where
-  run-append : (a b : List Move) (m : Memories) → run (a ++ b) m ≡ run b (run a m)
-  run-append [] b m = rw (none m) refl
-  run-append (x ∷ a) b m = rw (more x (a ++ b) m, more x a m) (run-append a b (one m x))
-
-  -- where a self copy leaves every byte, the list less these leaves the same
-  run-less : ((m : Memories) (a : Move) → selfCopy a ≡ true → one m a ≡ m) → (l : List Move) (m : Memories) → run (lessSelfCopies l) m ≡ run l m
-  unfolding lessSelfCopies
-  run-less self [] m = refl
-  run-less self (a ∷ l) m = rw (more a l m) (go (run-less self l) (selfCopy a) refl)
-    where
-      go : ((n : Memories) → run (lessSelfCopies l) n ≡ run l n) → (same : Bool) → selfCopy a ≡ same
-          → run (pick same (lessSelfCopies l) (a ∷ lessSelfCopies l)) m ≡ run l (one m a)
-      go rest true e = rw (self m a e) (rest m)
-      go rest false e = rw (more a (lessSelfCopies l) m) (rest (one m a))
-
--- in lent memories, and in those with a `Vec`
-self-act : (m : Memories) (a : Move) → selfCopy a ≡ true → (act m a ≡ m) × (heapAct m a ≡ m)
-unfolding selfCopy act heapAct
-self-act m (Within s l t) e =
-    let here = ap (λ (p : List ℕ). memories p (m .overflow)) (moved-self (m .pool) s l t (eqb-true s t e)) in (here, here)
-self-act m (In l) e = absurd (no-true e)
-self-act m (Down s l) e = absurd (no-true e)
-self-act m (Out s l) e = absurd (no-true e)
-self-act m (Grow s l) e = absurd (no-true e)
-
-pub perform-append : (a b : List Move) (m : Memories) → perform (a ++ b) m ≡ perform b (perform a m)
-unfolding perform
-perform-append = run-append perform act (λ m. refl) (λ a l m. refl)
-
-heap-append : (a b : List Move) (m : Memories) → heapPerform (a ++ b) m ≡ heapPerform b (heapPerform a m)
-unfolding heapPerform
-heap-append = run-append heapPerform heapAct (λ m. refl) (λ a l m. refl)
-
-pub less-performs : (l : List Move) (m : Memories) → perform (lessSelfCopies l) m ≡ perform l m
-unfolding perform
-less-performs = run-less perform act (λ m. refl) (λ a l m. refl) (λ m a e. self-act m a e .0)
-
-pub less-heap-performs : (l : List Move) (m : Memories) → heapPerform (lessSelfCopies l) m ≡ heapPerform l m
-unfolding heapPerform
-less-heap-performs = run-less heapPerform heapAct (λ m. refl) (λ a l m. refl) (λ m a e. self-act m a e .1)
-
 pub leads-none : (m : Memories) → Leads [] [] m m
 unfolding lessSelfCopies heapPerform perform
 leads-none m = record { less = refl; rust-heap = refl; pool-size = refl; rust-lent = λ x c h. (c, refl) }
@@ -192,21 +129,10 @@ leads-append {c} {d} {a} {b} {m} {n} {q} A B h =
 
 -- ---- Each move
 
-less-within : (s l t : ℕ) → within s l t ≡ lessSelfCopies (move-raw-on-moves s l t)
-unfolding lessSelfCopies selfCopy
-less-within s zero t = refl
-less-within s (suc l) t = rw (ne-eqb (suc l) 0 (λ e. omega arith)) refl
-
--- what is left by the move of a frame, noted or not
-pub perform-within : (m : Memories) (s l t : ℕ) → perform (within s l t) m ≡ memories (moved (m .pool) s l t) (m .overflow)
-unfolding perform act
-perform-within m s zero t = rw (moved-none (m .pool) s t) refl
-perform-within m s (suc l) t = rw (less-within s (suc l) t, less-performs (Within s (suc l) t ∷ []) m) refl
-
 pub leads-within : (m : Memories) (s l t : ℕ) → s + l ≤ length (m .pool) → t + l ≤ length (m .pool)
     → Leads (move-raw-on-moves s l t) (within s l t) m (memories (moved (m .pool) s l t) (m .overflow))
 unfolding lessSelfCopies heapPerform heapAct perform act
-leads-within m s zero t h k = rw (moved-none (m .pool) s t) (leads-none m)
+leads-within m s zero t h k = rw (← moved-none (m .pool) s t) (leads-none m)
 leads-within m s (suc l) t h k =
     record {
       less = less-within s (suc l) t;

@@ -21,6 +21,7 @@ pub mod SlotPassLaws
 pub mod SoundTestLaws
 pub mod StepLaws
 pub mod MovesInside
+pub mod MovesMade
 pub mod PerformLaws
 pub mod Unmoved
 pub mod CallLaws

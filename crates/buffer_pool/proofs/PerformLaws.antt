@@ -17,6 +17,7 @@ use Rattle.buffer_pool.specs.declared.moves.MoveKind.the-variants as kin
 use Rattle.buffer_pool.specs.declared.moves.Moves.{Moves}
 use Rattle.buffer_pool.specs.Moves.{Memories, memories, Move, act, perform, inside, allInside}
 use Rattle.buffer_pool.specs.MoveList.{moveAs, moveOf, listed}
+use Rattle.buffer_pool.proofs.MovesMade.{perform-append}
 
 -- ---- One move
 
@@ -113,8 +114,7 @@ inside-at c o (a ∷ l) (suc i) y e h = inside-at c o l i y (both-true (inside c
 
 perform-one : (l : List Move) (a : Move) (m : Memories) → perform (l ++ (a ∷ [])) m ≡ act (perform l m) a
 unfolding perform
-perform-one [] a m = refl
-perform-one (x ∷ l) a m = perform-one l a (act m x)
+perform-one l a m = perform-append l (a ∷ []) m
 
 module _ (moves : Moves) (size : length (moves .items) ≡ 7) where
   length-listed : length (listed moves) ≡ min (moves .count) 7

@@ -30,7 +30,8 @@ use Rattle.buffer_pool.specs.AsRust.{innerOf, rustAt, rustOf, Mirrors, L
 use Rattle.buffer_pool.proofs.Rules.{tail-room, tail-ready, tail-in, head-ready, head-in}
 use Rattle.buffer_pool.proofs.ReserveKept.{back-fits, kept-fit, reset-fit, place-orderly}
 use Rattle.buffer_pool.proofs.Unchanged.{place-overflow}
-use Rattle.buffer_pool.proofs.HeapMoves.{Leads, leads-none, leads-append, leads-within, leads-in, leads-down, leads-heap, less-performs, less-heap-performs, lent-bytes, lent-sizes}
+use Rattle.buffer_pool.proofs.MovesMade.{less-performs, less-heap-performs}
+use Rattle.buffer_pool.proofs.HeapMoves.{Leads, leads-none, leads-append, leads-within, leads-in, leads-down, leads-heap, lent-bytes, lent-sizes}
 use Rattle.buffer_pool.proofs.RustFunctions.{move-raw-is, back-fits-is, back-fits-moves-is}
 use Rattle.buffer_pool.proofs.RustLayers.{Sized, Gives, unmoved, settled, system-gives, layer-back, layer-front, layer-alloc}
 

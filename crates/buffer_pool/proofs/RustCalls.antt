@@ -40,6 +40,10 @@ use Rattle.buffer_pool.proofs.HeapMoves.{Leads, leads-down, leads-heap,
 use Rattle.buffer_pool.proofs.RustLayers.{Sized}
 use Rattle.buffer_pool.proofs.RustAgrees.{rust-agrees, moves-agree, bytes-agree, sizes-agree}
 
+-- what a reserve of ours leaves: is it refused with 4?
+abbrev reserving : ℕ → BufferPool → Memories → Bool → ℕ → Outcome
+reserving w r m t len = outcome (reserveOn t r (place w r len)) (pick t m (perform (place w r len .moves) m)) []
+
 -- ---- A call that is not refused: its record is sound, and its outcome is the call's own work
 
 pub record Works {A : Type 0} (number : A → ℕ) (w : ℕ) (r : BufferPool) (o worked : A) : Type 0 where
@@ -322,17 +326,13 @@ module _ {w : ℕ} {r : BufferPool} {m : Memories} {p : RustPool} (O : Orderly w
 
   -- ---- Reserve
 
-  -- what a reserve of ours leaves: is it refused with 4?
-  abbrev reserving : Bool → ℕ → Outcome
-  reserving t len = outcome (reserveOn t r (place w r len)) (pick t m (perform (place w r len .moves) m)) []
-
-  pub reserve-agrees : (k len : ℕ) → let o = reserving (tooLong (place w r len) len) len in
+  pub reserve-agrees : (k len : ℕ) → let o = reserving w r m (tooLong (place w r len) len) len in
       refusal (o .call .answer) ≡ 0 → AsRust (rust-reserve w (suc (suc (suc k))) p len) (replyOf (values (o .call .answer))) o
   unfolding reserveOn refusal
   reserve-agrees k len = go (tooLong (place w r len) len) refl
     where
-      go : (t : Bool) → tooLong (place w r len) len ≡ t → refusal (reserving t len .call .answer) ≡ 0
-          → AsRust (rust-reserve w (suc (suc (suc k))) p len) (replyOf (values (reserving t len .call .answer))) (reserving t len)
+      go : (t : Bool) → tooLong (place w r len) len ≡ t → refusal (reserving w r m t len .call .answer) ≡ 0
+          → AsRust (rust-reserve w (suc (suc (suc k))) p len) (replyOf (values (reserving w r m t len .call .answer))) (reserving w r m t len)
       go true e u = absurd (omega (arith, u))
       go false e u =
           let S : Sized r (heapOf r m) = (pool-size, T .mirrors .heap-size) in
@@ -367,7 +367,7 @@ module _ (w : ℕ) (r : BufferPool) (m : Memories) (p : RustPool) (T : Stands r 
       Unrefused o → AsRust (rust-reserve w (suc (suc (suc k))) p len) (replyOf (values (o .call .answer))) o
   unfolding reserve reserveStep
   reserve-as-rust k len u =
-      let W = worked w r m [] (outcome (reserveStep w r len) (pick (tooLong (place w r len) len) m (perform (place w r len .moves) m)) []) u in
+      let W = worked w r m [] (reserving w r m (tooLong (place w r len) len) len) u in
       subst (λ (o : Outcome). AsRust (rust-reserve w (suc (suc (suc k))) p len) (replyOf (values (o .call .answer))) o) (W .is)
       (reserve-agrees (W .orderly) T k len (W .unrefused))
 
@@ -376,12 +376,11 @@ module _ (w : ℕ) (r : BufferPool) (m : Memories) (p : RustPool) (T : Stands r 
       → reserve w r m len .memory ≡ perform (lessSelfCopies (rust-reserve-moves w (suc (suc (suc k))) p len)) m
   unfolding reserve reserveStep reserveOn refusal
   reserve-makes k len u =
-      let o : Bool → Outcome = λ t. outcome (reserveOn t r (place w r len)) (pick t m (perform (place w r len .moves) m)) [] in
-      let W = worked w r m [] (o (tooLong (place w r len) len)) u in
+      let W = worked w r m [] (reserving w r m (tooLong (place w r len) len) len) u in
       ap (λ (x : Outcome). x .memory) (sym (W .is)) ∙ go (W .orderly) (tooLong (place w r len) len) (W .unrefused)
     where
-      go : Orderly w r → (t : Bool) → refusal (reserveOn t r (place w r len) .answer) ≡ 0
-          → pick t m (perform (place w r len .moves) m) ≡ perform (lessSelfCopies (rust-reserve-moves w (suc (suc (suc k))) p len)) m
+      go : Orderly w r → (t : Bool) → Unrefused (reserving w r m t len)
+          → reserving w r m t len .memory ≡ perform (lessSelfCopies (rust-reserve-moves w (suc (suc (suc k))) p len)) m
       go O true e = absurd (omega (arith, e))
       go O false e = ap (λ (l : List Move). perform l m) (moves-agree w k r (heapOf r m) p len O (T .mirrors))
 

@@ -28,7 +28,8 @@ use Rattle.buffer_pool.specs.Rust.{done, then, with, Result, ok, err, In
 use Rattle.buffer_pool.specs.RustMoves.{moves-after, move-raw-moves, told-moves, try-clear-tail-moves, back-reserve-moves, front-reserve-moves}
 use Rattle.buffer_pool.specs.AsRust.{backOf, innerOf}
 use Rattle.buffer_pool.proofs.Rules.{clear-drops, clear-full, tail-room, tail-fits, front-start}
-use Rattle.buffer_pool.proofs.HeapMoves.{moved-none, length-moved}
+use Rattle.buffer_pool.proofs.ByteLaws.{moved-none}
+use Rattle.buffer_pool.proofs.HeapMoves.{length-moved}
 
 -- ---- The frame, in any memory
 
@@ -41,7 +42,7 @@ module _ (m : InnerMemory) where
       go : (l : ℕ) → m .raw-len ≡ l → move-raw-on l m to ≡ done (raw m (moved (m .bytes) (m .raw-offset) (m .raw-len) to) to (m .raw-len))
       go zero e =
           ap (λ (x : List ℕ). done (raw m x to (m .raw-len)))
-          (sym (moved-none (m .bytes) (m .raw-offset) to) ∙ ap (λ (l : ℕ). moved (m .bytes) (m .raw-offset) l to) (sym e))
+          (moved-none (m .bytes) (m .raw-offset) to ∙ ap (λ (l : ℕ). moved (m .bytes) (m .raw-offset) l to) (sym e))
       go (suc l) e = rw (le-leb (m .raw-offset + m .raw-len) (length (m .bytes)) h, le-leb (to + m .raw-len) (length (m .bytes)) k) refl
 
   pub reserve-raw-is : (len : ℕ) → m .raw-offset + m .raw-len + len ≤ length (m .bytes) → reserve-raw m len ≡ done (m .raw-offset + m .raw-len)
