@@ -4,9 +4,12 @@
  * finished frame that lives in the pool until it is released; a pool has eight slots for slices. The overflow is a second
  * memory, which takes a frame that the pool has no place for; such a frame is copied out when it is taken.
  *
- * A pool is a record and two lent memories: the pool memory and the overflow. The caller keeps all three and lends them to
- * every call. No call allocates, waits, or keeps a pointer. Every call answers, for every record, handle and length, with a
- * result or a refusal:
+ * Four callers, 0 to 3, can share a pool. A take names its caller, and each caller's slices have serials of their own, 1, 2, 3, ..
+ * without gaps. So two live slices may have one serial, under two callers: a slice is named by its whole handle.
+ *
+ * A pool is a record and two lent memories: the pool memory and the overflow. Its owner keeps all three and lends them to
+ * every call. No call allocates, waits, or keeps a pointer. Every call answers, for every record, handle, caller and length, with
+ * a result or a refusal:
  *
  *   1  the record fails the soundness test (among others: a mode that is no mode, a bit of live beyond the slots')
  *   2  a lent memory's length is not the record's
@@ -14,17 +17,19 @@
  *   4  reserve: the overflow would be used, and frame and reservation together exceed it
  *   5  commit: the length exceeds the reservation
  *   6  take: the frame lies in the overflow and is longer than the destination
- *   7  release, slice: the handle's slot is not 1 to 8 or not live, or start, length or serial are not that slot's
- *   8  take: the frame is not empty, lies in the pool, and all 4,294,967,295 serials were given
+ *   7  release, slice: the handle's slot is not 1 to 8 or not live, its caller is above 3, or start, length, serial or caller are
+ *      not that slot's
+ *   8  take: the frame is not empty, lies in the pool, and all 4,294,967,295 serials of the caller were given
+ *  12  take: the caller is above 3
  *
- * They are tested in this order: 1, 2, then the call's own; new gives only 3. A refused call changes nothing: the record, both
- * memories and the destination keep every byte, and every number of its result but the refusal is 0. What is not refused has
- * refusal 0.
+ * They are tested in this order: 1, 2, then the call's own, of a take 12 before 6 and 8; new gives only 3. 9 and 10 are of a trace
+ * file and no call gives them. A refused call changes nothing: the record, both memories and the destination keep every byte, and
+ * every number of its result but the refusal is 0. What is not refused has refusal 0.
  *
  * No struct has padding: every byte belongs to a field. A record can be stored, and records and results be compared, as bytes.
  * Every number of a result has 64 bits, but for those of a record or handle in it; release gives its refusal alone, as a byte.
  *
- * What a caller must see to, as no callee can: a pointer points to as many bytes as the length beside it says, also if that is 0
+ * What the program must see to, as no callee can: a pointer points to as many bytes as the length beside it says, also if that is 0
  * (any pointer that is not null will do then); record, pool memory, overflow and destination have no byte in common; one call at
  * a time is made on a pool.
  *
@@ -42,8 +47,9 @@
 extern "C" {
 #endif
 
-/* How many slices can live in a pool, and the most bytes that either memory may have. */
+/* How many slices can live in a pool, how many callers can take, and the most bytes that either memory may have. */
 #define BUFFER_POOL_SLOTS 8
+#define BUFFER_POOL_CALLERS 4
 #define BUFFER_POOL_BYTE_LIMIT 1048576
 
 /* Where the frame is gathered: the numbers of a record's mode. */
@@ -69,10 +75,11 @@ enum {
     BUFFER_POOL_COMMIT_TOO_LONG = 5,
     BUFFER_POOL_DESTINATION_TOO_SHORT = 6,
     BUFFER_POOL_NOT_LIVE = 7,
-    BUFFER_POOL_NO_SERIALS = 8
+    BUFFER_POOL_NO_SERIALS = 8,
+    BUFFER_POOL_UNKNOWN_CALLER = 12
 };
 
-/* The pool's record. buffer_pool_new makes it and the calls change it; a caller may read and copy it. It may be kept anywhere,
+/* The pool's record. buffer_pool_new makes it and the calls change it; its owner may read and copy it. It may be kept anywhere,
  * but its bytes are the pool's only knowledge of its memories: two copies of a record used on the same memories are two pools
  * that do not know of each other. */
 typedef struct {
@@ -81,9 +88,10 @@ typedef struct {
     uint32_t starts[BUFFER_POOL_SLOTS];  /* start, */
     uint32_t lengths[BUFFER_POOL_SLOTS]; /* length */
     uint32_t serials[BUFFER_POOL_SLOTS]; /* and serial of the slice last taken in each slot; slot 1 comes first */
-    uint32_t given;                      /* serials given */
-    uint16_t live;                       /* slot p is live if the bit 0x80 >> (p - 1) is set; no other bit is */
-    uint16_t mode;                       /* BUFFER_POOL_BACK, .._FRONT or .._OVERFLOW */
+    uint32_t given[BUFFER_POOL_CALLERS]; /* serials given to each caller; caller 0 comes first */
+    uint8_t callers[BUFFER_POOL_SLOTS];  /* caller of the slice last taken in each slot */
+    uint32_t live;                       /* slot p is live if the bit 0x80 >> (p - 1) is set; no other bit is */
+    uint32_t mode;                       /* BUFFER_POOL_BACK, .._FRONT or .._OVERFLOW */
     size_t back_start;                   /* the slots before the back */
     size_t back_len;                     /* the slots of the back */
     size_t used;                         /* slots used */
@@ -104,12 +112,14 @@ typedef struct {
     uint64_t memory; /* BUFFER_POOL_POOL_MEMORY or BUFFER_POOL_OVERFLOW_MEMORY */
 } buffer_pool_place;
 
-/* Names a slice. It is plain data: once the slice is released, the handle is refused with 7. */
+/* Names a slice. It is plain data: once the slice is released, the handle is refused with 7. Two live slices may have one serial
+ * under two callers, so handles are compared whole. */
 typedef struct {
     uint32_t start;  /* the slice's place in the pool memory */
     uint32_t length;
-    uint32_t serial; /* 1, 2, 3, .. over all takes that gave a slice */
-    uint32_t slot;   /* 1 to 8 */
+    uint32_t serial; /* 1, 2, 3, .. over the takes of its caller that gave a slice */
+    uint16_t slot;   /* 1 to 8 */
+    uint16_t caller; /* 0 to 3 */
 } buffer_pool_handle;
 
 /* What a reserve gives. */
@@ -145,24 +155,25 @@ typedef struct {
     typedef char buffer_pool_##type##_has_##bytes##_bytes_and_no_padding \
         [sizeof(buffer_pool_##type) == bytes && (fields) == bytes ? 1 : -1]
 
-BUFFER_POOL_LAYOUT(record, 208,
+BUFFER_POOL_LAYOUT(record, 232,
                    BUFFER_POOL_OF(record, capacity) + BUFFER_POOL_OF(record, overflow) + BUFFER_POOL_OF(record, starts)
                        + BUFFER_POOL_OF(record, lengths) + BUFFER_POOL_OF(record, serials) + BUFFER_POOL_OF(record, given)
-                       + BUFFER_POOL_OF(record, live) + BUFFER_POOL_OF(record, mode) + BUFFER_POOL_OF(record, back_start)
-                       + BUFFER_POOL_OF(record, back_len) + BUFFER_POOL_OF(record, used) + BUFFER_POOL_OF(record, raw_offset)
-                       + BUFFER_POOL_OF(record, raw_len) + BUFFER_POOL_OF(record, front_back_start)
+                       + BUFFER_POOL_OF(record, callers) + BUFFER_POOL_OF(record, live) + BUFFER_POOL_OF(record, mode)
+                       + BUFFER_POOL_OF(record, back_start) + BUFFER_POOL_OF(record, back_len) + BUFFER_POOL_OF(record, used)
+                       + BUFFER_POOL_OF(record, raw_offset) + BUFFER_POOL_OF(record, raw_len)
+                       + BUFFER_POOL_OF(record, front_back_start)
                        + BUFFER_POOL_OF(record, front_byte_capacity) + BUFFER_POOL_OF(record, front_len)
                        + BUFFER_POOL_OF(record, kept) + BUFFER_POOL_OF(record, cursor) + BUFFER_POOL_OF(record, reserved));
 BUFFER_POOL_LAYOUT(place, 24, BUFFER_POOL_OF(place, start) + BUFFER_POOL_OF(place, length) + BUFFER_POOL_OF(place, memory));
 BUFFER_POOL_LAYOUT(handle, 16,
                    BUFFER_POOL_OF(handle, start) + BUFFER_POOL_OF(handle, length) + BUFFER_POOL_OF(handle, serial)
-                       + BUFFER_POOL_OF(handle, slot));
+                       + BUFFER_POOL_OF(handle, slot) + BUFFER_POOL_OF(handle, caller));
 BUFFER_POOL_LAYOUT(reserved, 40,
                    BUFFER_POOL_OF(reserved, place) + BUFFER_POOL_OF(reserved, changes) + BUFFER_POOL_OF(reserved, refusal));
 BUFFER_POOL_LAYOUT(placed, 32, BUFFER_POOL_OF(placed, place) + BUFFER_POOL_OF(placed, refusal));
 BUFFER_POOL_LAYOUT(taken, 32,
                    BUFFER_POOL_OF(taken, handle) + BUFFER_POOL_OF(taken, copied) + BUFFER_POOL_OF(taken, refusal));
-BUFFER_POOL_LAYOUT(created, 216, BUFFER_POOL_OF(created, record) + BUFFER_POOL_OF(created, refusal));
+BUFFER_POOL_LAYOUT(created, 240, BUFFER_POOL_OF(created, record) + BUFFER_POOL_OF(created, refusal));
 
 #undef BUFFER_POOL_LAYOUT
 #undef BUFFER_POOL_OF
@@ -189,13 +200,13 @@ buffer_pool_placed buffer_pool_commit(buffer_pool_record *record, const uint8_t 
 buffer_pool_placed buffer_pool_truncate(buffer_pool_record *record, const uint8_t *pool, size_t pool_len,
                                         const uint8_t *overflow, size_t overflow_len, uint64_t n);
 
-/* Finishes the frame. A frame in the pool becomes a slice, and its handle is given. A frame in the overflow is copied to the start
- * of the destination, and its length is given; all other bytes of the destination stay. An empty frame gives slot 0 and
- * length 0. The next frame is empty, and the reservation is spent.
- * Refuses with 1, 2, 6 and 8; frame, reservation and destination then stay, too. A destination as long as the overflow is never
- * too short. */
+/* Finishes the frame for a caller, 0 to 3. A frame in the pool becomes a slice with the caller's next serial, and its handle is
+ * given. A frame in the overflow is copied to the start of the destination, and its length is given; all other bytes of the
+ * destination stay. An empty frame gives slot 0 and length 0. The next frame is empty, and the reservation is spent.
+ * Refuses with 1, 2, 12, 6 and 8, 12 also if the frame is empty; frame, reservation and destination then stay, too. A destination
+ * as long as the overflow is never too short. */
 buffer_pool_taken buffer_pool_take(buffer_pool_record *record, const uint8_t *pool, size_t pool_len, uint8_t *overflow,
-                                   size_t overflow_len, uint8_t *destination, size_t destination_len);
+                                   size_t overflow_len, uint64_t caller, uint8_t *destination, size_t destination_len);
 
 /* Frees the slice's slot; its bytes may be used by the next reserve. Gives the refusal, or 0.
  * Refuses with 1, 2 and 7. */

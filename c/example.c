@@ -1,5 +1,6 @@
-/* The page-turn log of an e-book reader: three entries are written, one of them too long for the pool; they are read and released,
- * one of them twice. c/run builds it and compares what it prints. */
+/* The logs of an e-book reader: the writers of page turns and of crashes share a pool, each with serials of its own. Three entries
+ * are written, one of them too long for the pool; they are read and released, one of them twice and one for the wrong writer.
+ * c/run builds it and compares what it prints. */
 #include "buffer_pool.h"
 
 #include <stdio.h>
@@ -12,6 +13,13 @@ static uint8_t overflow[24];
 static uint8_t page[sizeof overflow];
 
 static buffer_pool_record record;
+
+/* The callers. */
+enum {
+    PAGE_TURNS = 0,
+    CRASHES = 1,
+    NOBODY = BUFFER_POOL_CALLERS
+};
 
 /* Ends the program if a call that must be done was refused. */
 static void done(const char *call, uint64_t refusal)
@@ -28,8 +36,13 @@ static uint8_t *bytes_at(buffer_pool_place place)
     return (place.memory == BUFFER_POOL_OVERFLOW_MEMORY ? overflow : pool) + place.start;
 }
 
-/* Writes one entry: reserve, write, commit, take. */
-static buffer_pool_taken write_entry(const char *text)
+static buffer_pool_taken take(uint64_t caller)
+{
+    return buffer_pool_take(&record, pool, sizeof pool, overflow, sizeof overflow, caller, page, sizeof page);
+}
+
+/* Writes one entry of a caller: reserve, write, commit, take. */
+static buffer_pool_taken write_entry(uint64_t caller, const char *text)
 {
     size_t len = strlen(text);
 
@@ -41,8 +54,7 @@ static buffer_pool_taken write_entry(const char *text)
     buffer_pool_placed frame = buffer_pool_commit(&record, pool, sizeof pool, overflow, sizeof overflow, len);
     done("commit", frame.refusal);
 
-    buffer_pool_taken taken =
-        buffer_pool_take(&record, pool, sizeof pool, overflow, sizeof overflow, page, sizeof page);
+    buffer_pool_taken taken = take(caller);
     done("take", taken.refusal);
     return taken;
 }
@@ -53,8 +65,9 @@ static void print_slice(const char *name, buffer_pool_handle handle)
     buffer_pool_placed view =
         buffer_pool_slice(&record, pool, sizeof pool, overflow, sizeof overflow, handle);
     done("slice", view.refusal);
-    printf("%s: slot %u, start %u, length %u, serial %u: %.*s\n", name, (unsigned)handle.slot, (unsigned)handle.start,
-           (unsigned)handle.length, (unsigned)handle.serial, (int)view.place.length, (const char *)bytes_at(view.place));
+    printf("%s: caller %u, serial %u, slot %u, start %u, length %u: %.*s\n", name, (unsigned)handle.caller,
+           (unsigned)handle.serial, (unsigned)handle.slot, (unsigned)handle.start, (unsigned)handle.length,
+           (int)view.place.length, (const char *)bytes_at(view.place));
 }
 
 static uint8_t release(buffer_pool_handle handle)
@@ -68,13 +81,13 @@ int main(void)
     done("new", created.refusal);
     record = created.record;
 
-    buffer_pool_taken first = write_entry("page 12");
-    buffer_pool_taken second = write_entry("page 13, 41 s");
+    buffer_pool_taken first = write_entry(PAGE_TURNS, "page 12");
+    buffer_pool_taken second = write_entry(CRASHES, "crash in 41 s");
     print_slice("first", first.handle);
     print_slice("second", second.handle);
 
     /* 20 bytes of the pool are held, so 20 more go to the overflow. */
-    buffer_pool_taken third = write_entry("page 14, large print");
+    buffer_pool_taken third = write_entry(PAGE_TURNS, "page 14, large print");
     printf("third: slot %u, copied %d: %.*s\n", (unsigned)third.handle.slot, (int)third.copied, (int)third.copied,
            (const char *)page);
 
@@ -87,8 +100,14 @@ int main(void)
     printf("first released again: refused with %u, record %s\n", refusal,
            memcmp(&before, &record, sizeof record) == 0 ? "as it was" : "changed");
 
+    /* The first had the serial of the second, under another caller: the caller is part of the name. */
+    buffer_pool_handle wrong = second.handle;
+    wrong.caller = PAGE_TURNS;
+    printf("second released for page turns: refused with %u\n", (unsigned)release(wrong));
+
     done("release", release(second.handle));
     printf("second released, live slots %02x\n", (unsigned)record.live);
+    printf("take for nobody: refused with %u\n", (unsigned)take(NOBODY).refusal);
 
     /* No slice is live, so the whole pool is free again. */
     buffer_pool_reserved next =

@@ -8,12 +8,11 @@ use Prim.Native.Nat.{ℕ, zero, suc, _+_, _-_, _≤_, min}
 use native.Mathlib.Nat.{le-refl}
 use native.Mathlib.Decide.{decLe}
 use native.Mathlib.Omega.{arith}
-use borrow.Author.Tests.{ltb-false, eqb-true, eqb-false}
+use borrow.Author.Tests.{leb-false, ltb-false, eqb-true, eqb-false}
 use lib.Dec.{leb, ltb, eqb}
 use lib.ListN.{length, set, take, drop, length-take}
 use lib.Seq.{take-take, take-all}
 use Rattle.laws.specs.Tests.{pick}
-use Rattle.laws.specs.Live.{released}
 use Rattle.laws.specs.Lists.{part, moved}
 use Rattle.laws.proofs.Tests.{no-true}
 use Rattle.laws.proofs.Lists.{part-none, part-add}
@@ -25,18 +24,19 @@ use Rattle.buffer_pool.specs.declared.buffer_pool.Memory.the-variants.{Pool}
 use Rattle.buffer_pool.specs.declared.buffer_pool.Place.{Place}
 use Rattle.buffer_pool.specs.declared.buffer_pool.Answer.the-variants.{Done}
 use Rattle.buffer_pool.specs.declared.slice.Handle.{Handle}
-use Rattle.buffer_pool.specs.Record.{marked}
+use Rattle.buffer_pool.specs.Record.{callerCount}
 use Rattle.buffer_pool.specs.Moves.{Memories, act, perform}
 use Rattle.buffer_pool.specs.Placing.{Decision, place, tooLong}
 use Rattle.buffer_pool.specs.Soundness as test
 use Rattle.buffer_pool.specs.Sound.{InMode, Orderly, Sound}
 use Rattle.buffer_pool.specs.Values.{values}
-use Rattle.buffer_pool.specs.Steps.{called, at, frameOf, frame, reservation, reserveOn, reserveStep, resized, reframed, refused, commitStep, truncateStep, mostSerials, nextHandle, handedOut, longer, takeOn, takeStep, takeMoves, names, releaseStep}
+use Rattle.buffer_pool.specs.Steps.{called, at, frameOf, frame, reservation, reserveOn, reserveStep, resized, reframed, refused, commitStep, truncateStep, mostSerials, givenTo, nextHandle, handedOut, longer, takeOn, takeStep, takeMoves, names, freed, releaseStep}
 use Rattle.buffer_pool.specs.declared.buffer_pool.View.{View}
 use Rattle.buffer_pool.specs.Calls.{Outcome, outcome, misfit, copiedOut, shown, hidden, memoryAt, bytesAt, written}
 use Rattle.buffer_pool.specs.Vocabulary.{Part, TheFrame, TheReservation, TheSlice, Call, Reserve, Commit, Truncate, Take, Release, Look, viewOf, call}
 use Rattle.buffer_pool.proofs.Soundness.{sound-make}
-use Rattle.buffer_pool.proofs.Unchanged.{Fixed, fixed, place-capacity, place-overflow, place-live, place-serials, place-starts, place-lengths}
+use Rattle.buffer_pool.proofs.Named.{Named, names-use, names-make, place-same}
+use Rattle.buffer_pool.proofs.Unchanged.{Fixed, fixed, place-capacity, place-overflow}
 use Rattle.buffer_pool.proofs.Ranges.{orderly-claim}
 use Rattle.buffer_pool.proofs.SoundKept.{Step, step, step-orderly, step-sizes}
 use Rattle.buffer_pool.proofs.SoundKept as kept
@@ -46,7 +46,7 @@ use Rattle.book.specs.Demand3.{Member, sliceOf}
 use Rattle.book.proofs.Carried.{Sized, pooled}
 use Rattle.book.proofs.Carries.{Enough, place-carries}
 use Rattle.book.proofs.Places.{Off, below, above, off-sym, written-same, written-off, written-sized}
-use Rattle.book.proofs.Slices.{Named, names-use, names-make, slice-frame, slice-offer, slice-slice}
+use Rattle.book.proofs.Slices.{slice-frame, slice-offer, slice-slice}
 use Rattle.book.proofs.Pairs.{Booked, booked-beside, booked-slots, booked-written, booked-claimed, booked-released}
 use Rattle.book.proofs.Plain.{plainView, plainTake, plain, sized-fits, view-own, call-own, call-other}
 
@@ -105,9 +105,6 @@ module _ (r : BufferPool) (len : ℕ) where
   resized-spent (Front f) = refl
   resized-spent Alloc = refl
 
-abbrev freed : ℕ → BufferPool → ℕ → BufferPool
-freed w r p = marked r (released w (r .live) p) (r .starts) (r .lengths) (r .serials) (r .given)
-
 freed-frame : (w : ℕ) (r : BufferPool) (p : ℕ) (mode : PoolMode) → frameOf mode (freed w r p) ≡ frameOf mode r
 freed-frame w r p Back = refl
 freed-frame w r p (Front f) = refl
@@ -160,8 +157,8 @@ module _ (w : ℕ) (r : BufferPool) (m : Memories) (b : Book) (G : Agrees w r m 
           booked =
               booked-slots
               (booked-beside (G .booked)
-              (λ y i. let N = G .booked .named y i in rw (N .start-is, N .length-is) (C .slices (y .handle .slot) (N .held))))
-              (place-live w r len) (place-serials w r len) (λ p t. (place-starts w r len p t, place-lengths w r len p t));
+              (λ y i. let N = G .booked .named y i in rw (N .start-is, N .length-is) (C .slices (y .handle .slot) (N .here))))
+              (place-same w r len);
         }
 
     reserve-agrees : After w b (Reserve len) (plain w r m (Reserve len))
@@ -210,13 +207,13 @@ module _ (w : ℕ) (r : BufferPool) (m : Memories) (b : Book) (G : Agrees w r m 
   -- ---- Take
 
   -- the frame becomes the slice of a free slot
-  handed-booked : eqb (r .«raw_len») 0 ≡ false → (mode : PoolMode) (n : ℕ) → pooled r m ≡ b .F
-      → Booked w (fixed (handedOut w r mode n)) m (pair (nextHandle r) (b .F) ∷ b .pairs)
+  handed-booked : (caller : ℕ) → leb callerCount caller ≡ false → eqb (r .«raw_len») 0 ≡ false → (mode : PoolMode) (n : ℕ)
+      → pooled r m ≡ b .F → Booked w (fixed (handedOut w caller r mode n)) m (pair (nextHandle r caller) (b .F) ∷ b .pairs)
   unfolding bytesAt
-  handed-booked e mode n h =
+  handed-booked caller a e mode n h =
       let C = orderly-claim w r S (omega (arith, eqb-false (r .«raw_len») 0 e)) in
-      booked-claimed (G .booked) (r .used) (r .«raw_offset») (r .«raw_len») (suc (r .given)) (b .F) (C .within) (C .free)
-      (S .ready .slots .starts-w) (S .ready .slots .lengths-w) (S .ready .serials-w) h
+      booked-claimed (G .booked) (r .used) (r .«raw_offset») (r .«raw_len») (suc (givenTo r caller)) caller (b .F) (C .within)
+      (C .free) (S .ready .slots .starts-w) (S .ready .slots .lengths-w) (S .ready .serials-fit) (leb-false callerCount caller a) h
 
   -- the bytes after a copied frame move down in the overflow
   down-sizes : (n : ℕ) → n ≤ r .kept → r .kept ≤ length (m .overflow)
@@ -226,38 +223,40 @@ module _ (w : ℕ) (r : BufferPool) (m : Memories) (b : Book) (G : Agrees w r m 
   down-sizes (suc n) h k =
       (refl, length-copied (m .overflow) (suc n) (r .kept - suc n) (m .overflow) 0 (omega arith) (omega arith))
 
-  take-agrees : (destination : List ℕ) → After w b (Take destination) (plain w r m (Take destination))
+  take-agrees : (caller : ℕ) (destination : List ℕ) → After w b (Take caller destination) (plain w r m (Take caller destination))
   unfolding takeStep takeOn copiedOut takeMoves perform bytesAt
-  take-agrees destination =
-      go (eqb (frame r .length) 0) (ltb (length destination) (frame r .length)) (leb mostSerials (r .given)) (r .mode) refl
-      (S .in-mode) (G .gathered) (sound-after w r (kept.Take (length destination)) (G .sound))
+  take-agrees caller destination =
+      go (leb callerCount caller) refl (eqb (frame r .length) 0) (ltb (length destination) (frame r .length))
+      (leb mostSerials (givenTo r caller)) (r .mode) refl (S .in-mode) (G .gathered)
+      (sound-after w r (kept.Take caller (length destination)) (G .sound))
     where
-      go : (z long spent : Bool) (mode : PoolMode) → eqb (frameOf mode r .length) 0 ≡ z → InMode w mode r (r .reserved)
-          → bytesAt m (frameOf mode r) ≡ b .F → Sound w (takeOn z long spent mode w r .pool)
-          → After w b (Take destination) (plainTake r m destination (takeOn z long spent mode w r))
-      go true long spent mode e I h N =
+      go : (none : Bool) → leb callerCount caller ≡ none → (z long spent : Bool) (mode : PoolMode) → eqb (frameOf mode r .length) 0 ≡ z
+          → InMode w mode r (r .reserved) → bytesAt m (frameOf mode r) ≡ b .F → let c = takeOn none z long spent mode w caller r in
+          Sound w (c .pool) → After w b (Take caller destination) (plainTake r m destination c)
+      go true a z long spent mode e I h N = G
+      go false a true long spent mode e I h N =
           resized-agrees mode (frameOf mode r .length) [] N
           (empty-at m (frameOf mode r) (eqb-true (frameOf mode r .length) 0 e))
-      go false long true Back e I h N = G
-      go false long false Back e I h N =
+      go false a false long true Back e I h N = G
+      go false a false long false Back e I h N =
           record {
             sound = N;
             sized = resize refl refl;
             gathered = part-none (m .pool) (r .«raw_offset» + r .«raw_len»);
             offered = part-none (m .pool) (r .«raw_offset» + r .«raw_len» + 0);
-            booked = handed-booked e Back (suc (r .used) - r .«back_start») h;
+            booked = handed-booked caller a e Back (suc (r .used) - r .«back_start») h;
           }
-      go false long true (Front f) e I h N = G
-      go false long false (Front f) e I h N =
+      go false a false long true (Front f) e I h N = G
+      go false a false long false (Front f) e I h N =
           record {
             sound = N;
             sized = resize refl refl;
             gathered = part-none (m .pool) (r .«raw_offset» + r .«raw_len»);
             offered = part-none (m .pool) (r .«raw_offset» + r .«raw_len» + 0);
-            booked = handed-booked e (Front (longer f (suc (r .used)))) (r .«back_len») h;
+            booked = handed-booked caller a e (Front (longer f (suc (r .used)))) (r .«back_len») h;
           }
-      go false true spent Alloc e I h N = G
-      go false false spent Alloc e I h N =
+      go false a false true spent Alloc e I h N = G
+      go false a false false spent Alloc e I h N =
           let d = down-sizes (r .cursor) (omega (arith, I .fits)) (omega (arith, S .kept-within, G .sized .overflow-is)) in
           record {
             sound = N;
@@ -299,7 +298,7 @@ module _ (w : ℕ) (r : BufferPool) (m : Memories) (b : Book) (G : Agrees w r m 
   call-agrees (Reserve len) = reserve-agrees len
   call-agrees (Commit n) = commit-agrees n
   call-agrees (Truncate n) = truncate-agrees n
-  call-agrees (Take destination) = take-agrees destination
+  call-agrees (Take caller destination) = take-agrees caller destination
   call-agrees (Release h) = release-agrees h
   call-agrees (Look v) = look-agrees v
 

@@ -1,5 +1,5 @@
--- The book of a short list and what the pool shows beside it, by computing: a pool of 4 bytes and an overflow of 4, at 8
--- slots. Assumes nothing.
+-- The books of two short lists and what the pool shows beside them, by computing: a pool of 4 bytes and an overflow of 4, at 8
+-- slots. In the second, two callers hold slices of one serial. Assumes nothing.
 use mathlib.Core.Path.{_≡_, refl}
 use mathlib.Core.List.{List, [], _∷_, map}
 use Rattle.buffer_pool.specs.declared.buffer_pool.Memory.the-variants.{Pool, Overflow}
@@ -44,10 +44,10 @@ told s b (e ∷ es) =
 
 -- the handle of the first take, and an invented one of the same slot
 abbrev first : Handle
-first = record { slot = 1; start = 0; length = 2; serial = 1 }
+first = record { slot = 1; start = 0; length = 2; serial = 1; caller = 0 }
 
 abbrev invented : Handle
-invented = record { slot = 1; start = 0; length = 2; serial = 2 }
+invented = record { slot = 1; start = 0; length = 2; serial = 2; caller = 0 }
 
 lines : List Line
 lines =
@@ -55,7 +55,7 @@ lines =
     ∷ line (Write TheReservation 1 7) Done (book [] (0 ∷ 7 ∷ 0 ∷ []) [])
     ∷ line (Own (Commit 4)) (Refused 5) (book [] (0 ∷ 7 ∷ 0 ∷ []) [])
     ∷ line (Own (Commit 2)) (Framed (at Pool 0 2)) (book (0 ∷ 7 ∷ []) [] [])
-    ∷ line (Own (Take [])) (Taken first) (book [] [] (pair first (0 ∷ 7 ∷ []) ∷ []))
+    ∷ line (Own (Take 0 [])) (Taken first) (book [] [] (pair first (0 ∷ 7 ∷ []) ∷ []))
     ∷ line (Own (Reserve 3)) (Reserved (at Overflow 0 3) 1) (book [] (0 ∷ 0 ∷ 0 ∷ []) (pair first (0 ∷ 7 ∷ []) ∷ []))
     ∷ line (Write (TheSlice first) 0 6) Done (book [] (0 ∷ 0 ∷ 0 ∷ []) (pair first (6 ∷ 7 ∷ []) ∷ []))
     ∷ line (Write (TheSlice invented) 0 8) (Refused 7) (book [] (0 ∷ 0 ∷ 0 ∷ []) (pair first (6 ∷ 7 ∷ []) ∷ []))
@@ -63,8 +63,8 @@ lines =
     ∷ line (Own (Commit 3)) (Framed (at Overflow 0 3)) (book (5 ∷ 0 ∷ 0 ∷ []) [] (pair first (6 ∷ 7 ∷ []) ∷ []))
     ∷ line (Own (Truncate 1)) (Framed (at Overflow 0 1)) (book (5 ∷ []) [] (pair first (6 ∷ 7 ∷ []) ∷ []))
     ∷ line (Write TheFrame 1 9) Done (book (5 ∷ []) [] (pair first (6 ∷ 7 ∷ []) ∷ []))
-    ∷ line (Own (Take [])) (Refused 6) (book (5 ∷ []) [] (pair first (6 ∷ 7 ∷ []) ∷ []))
-    ∷ line (Own (Take (1 ∷ 2 ∷ []))) (Copied 1) (book [] [] (pair first (6 ∷ 7 ∷ []) ∷ []))
+    ∷ line (Own (Take 0 [])) (Refused 6) (book (5 ∷ []) [] (pair first (6 ∷ 7 ∷ []) ∷ []))
+    ∷ line (Own (Take 0 (1 ∷ 2 ∷ []))) (Copied 1) (book [] [] (pair first (6 ∷ 7 ∷ []) ∷ []))
     ∷ line (Own (Look (TheSlice first))) (Framed (at Pool 0 2)) (book [] [] (pair first (6 ∷ 7 ∷ []) ∷ []))
     ∷ line (Own (Release invented)) (Refused 7) (book [] [] (pair first (6 ∷ 7 ∷ []) ∷ []))
     ∷ line (Other (memories [] []) (Release first)) (Refused 2) (book [] [] (pair first (6 ∷ 7 ∷ []) ∷ []))
@@ -73,10 +73,44 @@ lines =
     ∷ line (Write (TheSlice first) 0 8) (Refused 7) (book [] [] [])
     ∷ []
 
+-- the slices of callers 2 and 3, and a handle of the second slot with the first one's caller
+abbrev second : Handle
+second = record { slot = 1; start = 0; length = 2; serial = 1; caller = 2 }
+
+abbrev third : Handle
+third = record { slot = 2; start = 2; length = 1; serial = 1; caller = 3 }
+
+abbrev exchanged : Handle
+exchanged = record { slot = 2; start = 2; length = 1; serial = 1; caller = 2 }
+
+twoCallers : List Line
+twoCallers =
+    line (Own (Take 4 [])) (Refused 12) (book [] [] [])
+    ∷ line (Own (Reserve 2)) (Reserved (at Pool 0 2) 0) (book [] (0 ∷ 0 ∷ []) [])
+    ∷ line (Own (Commit 2)) (Framed (at Pool 0 2)) (book (0 ∷ 0 ∷ []) [] [])
+    ∷ line (Own (Take 4 [])) (Refused 12) (book (0 ∷ 0 ∷ []) [] [])
+    ∷ line (Own (Take 2 [])) (Taken second) (book [] [] (pair second (0 ∷ 0 ∷ []) ∷ []))
+    ∷ line (Own (Reserve 1)) (Reserved (at Pool 2 1) 0) (book [] (0 ∷ []) (pair second (0 ∷ 0 ∷ []) ∷ []))
+    ∷ line (Own (Commit 1)) (Framed (at Pool 2 1)) (book (0 ∷ []) [] (pair second (0 ∷ 0 ∷ []) ∷ []))
+    ∷ line (Own (Take 3 [])) (Taken third) (book [] [] (pair third (0 ∷ []) ∷ pair second (0 ∷ 0 ∷ []) ∷ []))
+    ∷ line (Write (TheSlice exchanged) 0 8) (Refused 7) (book [] [] (pair third (0 ∷ []) ∷ pair second (0 ∷ 0 ∷ []) ∷ []))
+    ∷ line (Write (TheSlice third) 0 8) Done (book [] [] (pair third (8 ∷ []) ∷ pair second (0 ∷ 0 ∷ []) ∷ []))
+    ∷ line (Own (Release exchanged)) (Refused 7) (book [] [] (pair third (8 ∷ []) ∷ pair second (0 ∷ 0 ∷ []) ∷ []))
+    ∷ line (Own (Release second)) Done (book [] [] (pair third (8 ∷ []) ∷ []))
+    ∷ line (Own (Look (TheSlice third))) (Framed (at Pool 2 1)) (book [] [] (pair third (8 ∷ []) ∷ []))
+    ∷ []
+
 entries : List Line → List Entry
 entries [] = []
 entries (l ∷ ls) = l .entry ∷ entries ls
 
-example : told (opened slotCount (memories (9 ∷ 9 ∷ 9 ∷ 9 ∷ []) (4 ∷ 3 ∷ 2 ∷ 1 ∷ []))) emptyBook (entries lines) ≡ lines
+abbrev start : State
+start = opened slotCount (memories (9 ∷ 9 ∷ 9 ∷ 9 ∷ []) (4 ∷ 3 ∷ 2 ∷ 1 ∷ []))
+
+example : told start emptyBook (entries lines) ≡ lines
 unfolding told entries lines definitions call viewOf viewAnswer sameHandle without rewritten
 example = refl
+
+two-callers : told start emptyBook (entries twoCallers) ≡ twoCallers
+unfolding told entries twoCallers definitions call viewOf viewAnswer sameHandle without rewritten
+two-callers = refl

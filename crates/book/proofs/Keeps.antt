@@ -18,12 +18,12 @@ use Rattle.buffer_pool.specs.declared.buffer_pool.BufferPool.{BufferPool}
 use Rattle.buffer_pool.specs.declared.buffer_pool.PoolMode.{PoolMode}
 use Rattle.buffer_pool.specs.declared.buffer_pool.PoolMode.the-variants.{Back, Front, Alloc}
 use Rattle.buffer_pool.specs.declared.slice.Handle.{Handle}
-use Rattle.buffer_pool.specs.Record.{byteLimit}
+use Rattle.buffer_pool.specs.Record.{byteLimit, callerCount}
 use Rattle.buffer_pool.specs.Moves.{Memories}
 use Rattle.buffer_pool.specs.Soundness.{sound}
 use Rattle.buffer_pool.specs.Sound.{InMode, Orderly}
 use Rattle.buffer_pool.specs.Values.{noPlace, noHandle, Values, valued, refusal, values}
-use Rattle.buffer_pool.specs.Steps.{frameOf, frame, mostSerials, takeOn, takeStep}
+use Rattle.buffer_pool.specs.Steps.{frameOf, frame, mostSerials, givenTo, takeOn, takeStep}
 use Rattle.buffer_pool.specs.Calls.{Outcome, newOn, new, copiedOut, shown, hidden, memoryAt, bytesAt}
 use Rattle.buffer_pool.specs.Vocabulary.{TheFrame, TheReservation, TheSlice, Take}
 use Rattle.buffer_pool.proofs.Soundness.{sound-use}
@@ -35,7 +35,8 @@ use Rattle.book.specs.Entries.{Entry, State, opened, next}
 use Rattle.book.specs.Book.{Pair, Book, emptyBook, noted}
 use Rattle.book.specs.Demand3.{Member, sliceOf, Apart, AllApart, Shows, Kept, Always}
 use Rattle.book.proofs.Places.{off-apart}
-use Rattle.book.proofs.Slices.{Named, names-make, slice-end, slice-frame, slice-offer, slice-slice}
+use Rattle.buffer_pool.proofs.Named.{Named, names-make}
+use Rattle.book.proofs.Slices.{slice-end, slice-frame, slice-offer, slice-slice}
 use Rattle.book.proofs.Pairs.{Once}
 use Rattle.book.proofs.Plain.{plainTake, plain, call-other}
 use Rattle.book.proofs.Agrees.{Agrees, agrees-tested, agrees-view, agrees-call, empty-at, next-agrees}
@@ -75,7 +76,7 @@ module _ (w : ℕ) (s : State) (b : Book) (G : Agrees w (s .pool) (s .lent) b) w
             omega (
               arith,
               slice-end w r S (x .handle) N,
-              S .ready .slots .inside (x .handle .slot) (N .held),
+              S .ready .slots .inside (x .handle .slot) (N .here),
               G .sized .pool-is,
             );
         holds = G .booked .shows x i;
@@ -96,26 +97,27 @@ module _ (w : ℕ) (s : State) (b : Book) (G : Agrees w (s .pool) (s .lent) b) w
   Copy : List ℕ → ℕ → List ℕ → Type 0
   Copy destination n after = (n ≡ length (b .F)) × (after ≡ b .F ++ drop n destination)
 
-  copies : (destination : List ℕ) (n : ℕ) → values (plain w r m (Take destination) .call .answer) ≡ copying n
-      → Copy destination n (plain w r m (Take destination) .destination)
+  copies : (caller : ℕ) (destination : List ℕ) (n : ℕ) → let o = plain w r m (Take caller destination) in
+      values (o .call .answer) ≡ copying n → Copy destination n (o .destination)
   unfolding Copy takeStep takeOn copiedOut copied bytesAt part
-  copies destination n =
-      go (eqb (frame r .length) 0) (ltb (length destination) (frame r .length)) (leb mostSerials (r .given)) (r .mode) refl
-      (S .in-mode) (G .gathered)
+  copies caller destination n =
+      go (leb callerCount caller) (eqb (frame r .length) 0) (ltb (length destination) (frame r .length))
+      (leb mostSerials (givenTo r caller)) (r .mode) refl (S .in-mode) (G .gathered)
     where
-      go : (z long spent : Bool) (mode : PoolMode) → eqb (frameOf mode r .length) 0 ≡ z → InMode w mode r (r .reserved)
-          → bytesAt m (frameOf mode r) ≡ b .F → values (takeOn z long spent mode w r .answer) ≡ copying n
-          → Copy destination n (plainTake r m destination (takeOn z long spent mode w r) .destination)
-      go true long spent mode e I h a =
+      go : (none z long spent : Bool) (mode : PoolMode) → eqb (frameOf mode r .length) 0 ≡ z → InMode w mode r (r .reserved)
+          → bytesAt m (frameOf mode r) ≡ b .F → let c = takeOn none z long spent mode w caller r in
+          values (c .answer) ≡ copying n → Copy destination n (plainTake r m destination c .destination)
+      go true z long spent mode e I h a = absurd (omega (arith, ap (λ (v : Values). v .number) a))
+      go false true long spent mode e I h a =
           let none : b .F ≡ [] = sym h ∙ empty-at m (frameOf mode r) (eqb-true (frameOf mode r .length) 0 e) in
           let count : 0 ≡ n = ap (λ (v : Values). v .length) a in
           rw (none, ← count) (refl, refl)
-      go false long true Back e I h a = absurd (omega (arith, ap (λ (v : Values). v .number) a))
-      go false long false Back e I h a = absurd (omega (arith, ap (λ (v : Values). v .handle .slot) a))
-      go false long true (Front f) e I h a = absurd (omega (arith, ap (λ (v : Values). v .number) a))
-      go false long false (Front f) e I h a = absurd (omega (arith, ap (λ (v : Values). v .handle .slot) a))
-      go false true spent Alloc e I h a = absurd (omega (arith, ap (λ (v : Values). v .number) a))
-      go false false spent Alloc e I h a =
+      go false false long true Back e I h a = absurd (omega (arith, ap (λ (v : Values). v .number) a))
+      go false false long false Back e I h a = absurd (omega (arith, ap (λ (v : Values). v .handle .slot) a))
+      go false false long true (Front f) e I h a = absurd (omega (arith, ap (λ (v : Values). v .number) a))
+      go false false long false (Front f) e I h a = absurd (omega (arith, ap (λ (v : Values). v .handle .slot) a))
+      go false false true spent Alloc e I h a = absurd (omega (arith, ap (λ (v : Values). v .number) a))
+      go false false false spent Alloc e I h a =
           let count : r .cursor ≡ n = ap (λ (v : Values). v .length) a in
           let within : 0 + r .cursor ≤ length (m .overflow) = omega (arith, I .fits, S .kept-within, G .sized .overflow-is) in (
             sym count ∙ sym (length-part (m .overflow) 0 (r .cursor) within) ∙ ap length h,
@@ -136,9 +138,9 @@ module _ (w : ℕ) (s : State) (b : Book) (G : Agrees w (s .pool) (s .lent) b) w
         apart = all-apart (b .pairs) (G .booked .named) (G .booked .once);
         apart-frame = λ x i. off-apart (slice-frame w r S (x .handle) (G .booked .named x i));
         apart-reservation = λ x i. off-apart (slice-offer w r S (x .handle) (G .booked .named x i));
-        copied = λ destination n.
+        copied = λ caller destination n.
             subst (λ (o : Outcome). values (o .call .answer) ≡ copying n → Copy destination n (o .destination))
-            (sym (agrees-call G (Take destination))) (copies destination n);
+            (sym (agrees-call G (Take caller destination))) (copies caller destination n);
         refused-other = λ x c f. call-other w r x (agrees-tested G) f c;
       }
 

@@ -7,5 +7,6 @@ pub mod Plain
 pub mod Agrees
 pub mod Keeps
 pub mod Same
+pub mod Serials
 pub mod Demand3
 pub mod Example

@@ -5,30 +5,29 @@ use mathlib.Core.Bool.{Bool, true, false}
 use mathlib.Core.List.{List, [], _∷_, map}
 use mathlib.Core.Logic.{_≢_, inl, inr}
 use Prim.Native.Nat.{ℕ, suc, _-_, _≤_, _<_}
-use native.Mathlib.Omega.{arith}
 use native.Mathlib.Decide.{ℕ-discrete}
-use lib.ListN.{length, getD, set}
-use lib.Seq.{getD-set-same, getD-set-other}
+use lib.ListN.{length, set}
 use Rattle.laws.specs.Tests.{pick}
-use Rattle.laws.specs.Live.{liveAt, claimed, released}
-use Rattle.laws.proofs.Tests.{no-true}
-use Rattle.laws.proofs.Slots.{claimed-same, claimed-other, released-same, released-other}
+use Rattle.laws.specs.Live.{liveAt, released}
+use Rattle.laws.proofs.Tests.{no-true, pick-cases}
+use Rattle.laws.proofs.Slots.{released-same}
 use Rattle.buffer_pool.specs.declared.buffer_pool.Place.{Place}
 use Rattle.buffer_pool.specs.declared.slice.Handle.{Handle}
-use Rattle.buffer_pool.specs.Record.{startAt}
+use Rattle.buffer_pool.specs.Record.{callerCount}
 use Rattle.buffer_pool.specs.Moves.{Memories}
-use Rattle.buffer_pool.specs.Sound.{Held}
+use Rattle.buffer_pool.specs.Sound.{Held, SerialsFit}
 use Rattle.buffer_pool.specs.Calls.{bytesAt, written}
 use Rattle.buffer_pool.proofs.StepsKept.{released-held}
 use Rattle.buffer_pool.proofs.Unchanged.{Fixed}
+use Rattle.buffer_pool.proofs.Named.{Named, slot-one, Same, same-held, same-named, claimedSlot, handleOf, claimed-named, claimed-live, claimed-still, releasedSlot, released-still}
 use Rattle.book.specs.Book.{Pair, pair, sameHandle, without, rewritten}
 use Rattle.book.specs.Demand3.{Member, sliceOf}
 use Rattle.book.proofs.Places.{Off, written-same, written-off}
-use Rattle.book.proofs.Slices.{handleOf, same-is, same-self, Named, slot-one}
+use Rattle.book.proofs.Slices.{same-is, same-self}
 
 -- ---- Pairs
 
-member-map : (f : Pair → Pair) (pairs : List Pair) (y : Pair) → Member y (map f pairs) → (x : Pair) × Member x pairs × (y ≡ f x)
+pub member-map : (f : Pair → Pair) (pairs : List Pair) (y : Pair) → Member y (map f pairs) → (x : Pair) × Member x pairs × (y ≡ f x)
 member-map f (x ∷ pairs) y (inl e) = (x, inl refl, e)
 member-map f (x ∷ pairs) y (inr i) = let t = member-map f pairs y i in (t .0, inr (t .1), t .2)
 
@@ -36,7 +35,7 @@ map-member : (f : Pair → Pair) (pairs : List Pair) (x : Pair) → Member x pai
 map-member f (y ∷ pairs) x (inl e) = inl (ap f e)
 map-member f (y ∷ pairs) x (inr i) = inr (map-member f pairs x i)
 
-without-member : (h : Handle) (pairs : List Pair) (y : Pair) → Member y (without h pairs)
+pub without-member : (h : Handle) (pairs : List Pair) (y : Pair) → Member y (without h pairs)
     → Member y pairs × (sameHandle (y .handle) h ≡ false)
 unfolding without
 without-member h [] y = λ i. absurd i
@@ -60,6 +59,12 @@ member-without h (x ∷ pairs) y i e = go (sameHandle (x .handle) h) refl i (λ 
     go true d (inr j) rest = rest j
     go false d (inl j) rest = inl j
     go false d (inr j) rest = inr (rest j)
+
+-- a pair that is rewritten keeps its handle
+pub rewritten-handle : (h : Handle) (i byte : ℕ) (x : Pair) → rewritten h i byte x .handle ≡ x .handle
+unfolding rewritten
+rewritten-handle h i byte x =
+    pick-cases (λ (y : Pair). y .handle ≡ x .handle) (sameHandle (x .handle) h) (λ e. refl) (λ e. refl)
 
 -- no two pairs are of one slot
 abbrev pub Once : List Pair → Type 0
@@ -100,21 +105,12 @@ module _ {w : ℕ} {x : Fixed} {m : Memories} {pairs : List Pair} (B : Booked w 
   booked-beside same = record { named = B .named; shows = λ y i. same y i ∙ B .shows y i; known = B .known; once = B .once }
 
   -- other slots, with the same entries where one is live
-  pub booked-slots : {x′ : Fixed} → x′ .live ≡ x .live → x′ .serials ≡ x .serials
-      → ((p : ℕ) → Held w (x .live) p → (x′ .starts ≡ x .starts) × (x′ .lengths ≡ x .lengths)) → Booked w x′ m pairs
-  booked-slots {x′} live serials entries =
+  pub booked-slots : {x′ : Fixed} → Same w x x′ → Booked w x′ m pairs
+  booked-slots S =
       record {
-        named = λ y i.
-            let N = B .named y i in
-            let e = entries (y .handle .slot) (N .held) in
-            record {
-              held = subst (λ (l : ℕ). Held w l (y .handle .slot)) (sym live) (N .held);
-              start-is = N .start-is ∙ ap (λ (l : List ℕ). startAt l (y .handle .slot)) (sym (e .0));
-              length-is = N .length-is ∙ ap (λ (l : List ℕ). startAt l (y .handle .slot)) (sym (e .1));
-              serial-is = N .serial-is ∙ ap (λ (l : List ℕ). startAt l (y .handle .slot)) (sym serials);
-            };
+        named = λ y i. same-named S (B .named y i);
         shows = B .shows;
-        known = λ p t. B .known p (subst (λ (l : ℕ). Held w l p) live t);
+        known = λ p t. B .known p (same-held S p t);
         once = B .once;
       }
 
@@ -142,11 +138,7 @@ module _ {w : ℕ} {x : Fixed} {m : Memories} {pairs : List Pair} (B : Booked w 
       Shown z = bytesAt (written m p i byte) (sliceOf z) ≡ z .bytes
 
       kept : (z : Pair) → rewritten h i byte z .handle ≡ z .handle
-      kept z = go (sameHandle (z .handle) h)
-        where
-          go : (t : Bool) → changed t z .handle ≡ z .handle
-          go true = refl
-          go false = refl
+      kept = rewritten-handle h i byte
 
       rewrites : (z : Pair) → Member z pairs → Shown (rewritten h i byte z)
       rewrites z j = go (sameHandle (z .handle) h) refl
@@ -165,71 +157,19 @@ module _ {w : ℕ} {x : Fixed} {m : Memories} {pairs : List Pair} (B : Booked w 
 
 -- ---- A slot claimed, and a slot released
 
-entry-same : (l : List ℕ) (i a : ℕ) → i < length l → startAt (set l i a) (suc i) ≡ a
-entry-same l i a h = ap (λ (j : ℕ). getD (set l i a) j 0) {y = i} (omega arith) ∙ getD-set-same l i a 0 h
-
-entry-other : (l : List ℕ) (i a p : ℕ) → 1 ≤ p → p ≢ suc i → startAt (set l i a) p ≡ startAt l p
-entry-other l i a p h n = getD-set-other l i (p - 1) a 0 (λ e. n (omega arith))
-
--- these slots with the handle's slot made live as its slice, and with slot p made free
-abbrev claimedSlot : ℕ → Fixed → ℕ → ℕ → ℕ → ℕ → Fixed
-claimedSlot w x i start len serial =
-    record {
-      capacity = x .capacity;
-      overflow = x .overflow;
-      live = claimed w (x .live) (suc i);
-      starts = set (x .starts) i start;
-      lengths = set (x .lengths) i len;
-      serials = set (x .serials) i serial;
-      given = serial;
-    }
-
-abbrev releasedSlot : ℕ → Fixed → ℕ → Fixed
-releasedSlot w x p =
-    record {
-      capacity = x .capacity;
-      overflow = x .overflow;
-      live = released w (x .live) p;
-      starts = x .starts;
-      lengths = x .lengths;
-      serials = x .serials;
-      given = x .given;
-    }
-
 module _ {w : ℕ} {x : Fixed} {m : Memories} {pairs : List Pair} (B : Booked w x m pairs) where
   -- slot i + 1 was free, and the frame's bytes are F
-  module _ (i start len serial : ℕ) (F : List ℕ) (h : i < w) (free : liveAt w (x .live) (suc i) ≡ false)
-      (hs : w ≤ length (x .starts)) (hl : w ≤ length (x .lengths)) (hn : w ≤ length (x .serials)) where
+  module _ (i start len serial caller : ℕ) (F : List ℕ) (h : i < w) (free : liveAt w (x .live) (suc i) ≡ false)
+      (hs : w ≤ length (x .starts)) (hl : w ≤ length (x .lengths)) (hn : SerialsFit w (x .serials) (x .callers) (x .given))
+      (a : caller < callerCount) where
     abbrev taken : Handle
-    taken = handleOf (suc i) start len serial
+    taken = handleOf (suc i) start len serial caller
 
     abbrev x′ : Fixed
-    x′ = claimedSlot w x i start len serial
-
-    other : (p : ℕ) → p ≤ w → p ≢ suc i → liveAt w (x′ .live) p ≡ liveAt w (x .live) p
-    other p k n = claimed-other w (x .live) (suc i) p (omega arith) k (λ e. n (sym e))
+    x′ = claimedSlot w x i start len serial caller
 
     not-taken : (y : Pair) → Member y pairs → y .handle .slot ≢ suc i
-    not-taken y j e = no-true (sym free ∙ ap (liveAt w (x .live)) (sym e) ∙ B .named y j .held .here)
-
-    taken-named : Named w x′ taken
-    taken-named =
-        record {
-          held = record { one = omega arith; most = h; here = claimed-same w (x .live) (suc i) };
-          start-is = sym (entry-same (x .starts) i start (omega arith));
-          length-is = sym (entry-same (x .lengths) i len (omega arith));
-          serial-is = sym (entry-same (x .serials) i serial (omega arith));
-        }
-
-    still-named : (k : Handle) → Named w x k → k .slot ≢ suc i → Named w x′ k
-    still-named k N n =
-        let t = N .held in
-        record {
-          held = record { one = t .one; most = t .most; here = other (k .slot) (t .most) n ∙ t .here };
-          start-is = N .start-is ∙ sym (entry-other (x .starts) i start (k .slot) (t .one) n);
-          length-is = N .length-is ∙ sym (entry-other (x .lengths) i len (k .slot) (t .one) n);
-          serial-is = N .serial-is ∙ sym (entry-other (x .serials) i serial (k .slot) (t .one) n);
-        }
+    not-taken y j e = no-true (sym free ∙ ap (liveAt w (x .live)) (sym e) ∙ B .named y j .here .here)
 
     pub booked-claimed : bytesAt m (sliceOf (pair taken [])) ≡ F → Booked w x′ m (pair taken F ∷ pairs)
     booked-claimed shown =
@@ -241,8 +181,9 @@ module _ {w : ℕ} {x : Fixed} {m : Memories} {pairs : List Pair} (B : Booked w 
         }
       where
         named : (y : Pair) → Member y (pair taken F ∷ pairs) → Named w x′ (y .handle)
-        named y (inl e) = subst (λ (z : Pair). Named w x′ (z .handle)) (sym e) taken-named
-        named y (inr j) = still-named (y .handle) (B .named y j) (not-taken y j)
+        named y (inl e) =
+            subst (λ (z : Pair). Named w x′ (z .handle)) (sym e) (claimed-named w x i start len serial caller h hs hl hn a)
+        named y (inr j) = claimed-still w x i start len serial caller h (not-taken y j) (B .named y j)
 
         shows : (y : Pair) → Member y (pair taken F ∷ pairs) → bytesAt m (sliceOf y) ≡ y .bytes
         shows y (inl e) = subst (λ (z : Pair). bytesAt m (sliceOf z) ≡ z .bytes) (sym e) shown
@@ -252,7 +193,7 @@ module _ {w : ℕ} {x : Fixed} {m : Memories} {pairs : List Pair} (B : Booked w 
             → (y : Pair) × Member y (pair taken F ∷ pairs) × (y .handle .slot ≡ p)
         known p t (yes e) = (pair taken F, inl refl, sym e)
         known p t (no n) =
-            let k = B .known p (record { one = t .one; most = t .most; here = sym (other p (t .most) n) ∙ t .here }) in
+            let k = B .known p (record { one = t .one; most = t .most; here = sym (claimed-live w x i start len serial caller h p (t .most) n) ∙ t .here }) in
             (k .0, inr (k .1), k .2)
 
   pub booked-released : (h : Handle) → Named w x h → Booked w (releasedSlot w x (h .slot)) m (without h pairs)
@@ -260,29 +201,15 @@ module _ {w : ℕ} {x : Fixed} {m : Memories} {pairs : List Pair} (B : Booked w 
       record {
         named = λ y j. let t = without-member h pairs y j in named y (B .named y (t .0)) (t .1);
         shows = λ y j. B .shows y (without-member h pairs y j .0);
-        known = λ p t. known p t (B .known p (released-held w (x .live) (h .slot) p (N .held .one) (N .held .most) t));
+        known = λ p t. known p t (B .known p (released-held w (x .live) (h .slot) p (N .here .one) (N .here .most) t));
         once = once-without h pairs (B .once);
       }
     where
       named : (y : Pair) → Named w x (y .handle) → sameHandle (y .handle) h ≡ false
           → Named w (releasedSlot w x (h .slot)) (y .handle)
       named y M e =
-          let t = M .held in
-          let n : h .slot ≢ y .handle .slot =
-          λ d. no-true (sym e ∙ ap (λ (k : Handle). sameHandle k h) (slot-one M N (sym d)) ∙ same-self h) in
-          record {
-            held =
-                record {
-                  one = t .one;
-                  most = t .most;
-                  here =
-                      released-other w (x .live) (h .slot) (y .handle .slot) (N .held .most) (t .most) n (N .held .one) (t .one)
-                      ∙ t .here;
-                };
-            start-is = M .start-is;
-            length-is = M .length-is;
-            serial-is = M .serial-is;
-          }
+          released-still (N .here)
+          (λ d. no-true (sym e ∙ ap (λ (k : Handle). sameHandle k h) (slot-one M N d) ∙ same-self h)) M
 
       known : (p : ℕ) → Held w (released w (x .live) (h .slot)) p → (y : Pair) × Member y pairs × (y .handle .slot ≡ p)
           → (y : Pair) × Member y (without h pairs) × (y .handle .slot ≡ p)
@@ -293,6 +220,6 @@ module _ {w : ℕ} {x : Fixed} {m : Memories} {pairs : List Pair} (B : Booked w 
               let d : h .slot ≡ p = sym (ap (λ (z : Handle). z .slot) (same-is (k .0 .handle) h e)) ∙ k .2 in
               absurd
               (no-true
-              (sym (released-same w (x .live) (h .slot) (N .held .one) (N .held .most))
+              (sym (released-same w (x .live) (h .slot) (N .here .one) (N .here .most))
               ∙ ap (liveAt w (released w (x .live) (h .slot))) d ∙ t .here))
           go false e = (k .0, member-without h pairs (k .0) (k .1) e, k .2)

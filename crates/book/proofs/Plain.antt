@@ -35,7 +35,7 @@ plain w r m (Reserve len) =
     outcome (reserveStep w r len) (pick (tooLong (place w r len) len) m (perform (place w r len .moves) m)) []
 plain w r m (Commit n) = outcome (commitStep r n) m []
 plain w r m (Truncate n) = outcome (truncateStep r n) m []
-plain w r m (Take destination) = plainTake r m destination (takeStep w r (length destination))
+plain w r m (Take caller destination) = plainTake r m destination (takeStep w r caller (length destination))
 plain w r m (Release h) = outcome (releaseStep w r h) m []
 plain w r m (Look v) = outcome (called r (viewAnswer (plainView w r v .number) (plainView w r v .place))) m []
 
@@ -56,7 +56,7 @@ module _ (w : ℕ) (r : BufferPool) (m : Memories) (e : sound w r ≡ true) wher
   call-own f (Reserve len) = rw (e, f)
   call-own f (Commit n) = rw (e, f)
   call-own f (Truncate n) = rw (e, f)
-  call-own f (Take destination) = rw (e, f)
+  call-own f (Take caller destination) = rw (e, f)
   call-own f (Release h) = rw (e, f)
   call-own f (Look v) = ap (λ (x : View). outcome (called r (viewAnswer (x .number) (x .place))) m []) (view-own f v)
 
@@ -71,6 +71,6 @@ module _ (w : ℕ) (r : BufferPool) (m : Memories) (e : sound w r ≡ true) wher
   call-other f (Reserve len) = rw (e, f)
   call-other f (Commit n) = rw (e, f)
   call-other f (Truncate n) = rw (e, f)
-  call-other f (Take destination) = rw (e, f)
+  call-other f (Take caller destination) = rw (e, f)
   call-other f (Release h) = rw (e, f)
   call-other f (Look v) = ap (λ (x : View). outcome (called r (viewAnswer (x .number) (x .place))) m []) (view-other f v)

@@ -44,7 +44,7 @@ unfolding copiedOut
 plain-same w r m m′ (Reserve len) = refl
 plain-same w r m m′ (Commit n) = refl
 plain-same w r m m′ (Truncate n) = refl
-plain-same w r m m′ (Take destination) = ap (takeStep w r) (sym (length-replicate (length destination) 0))
+plain-same w r m m′ (Take caller destination) = ap (takeStep w r caller) (sym (length-replicate (length destination) 0))
 plain-same w r m m′ (Release h) = refl
 plain-same w r m m′ (Look v) = refl
 

@@ -16,13 +16,12 @@ use Rattle.buffer_pool.specs.declared.buffer_pool.Memory.{Memory}
 use Rattle.buffer_pool.specs.declared.buffer_pool.Memory.the-variants.{Pool, Overflow}
 use Rattle.buffer_pool.specs.declared.buffer_pool.Place.{Place}
 use Rattle.buffer_pool.specs.declared.slice.Handle.{Handle}
-use Rattle.buffer_pool.specs.Record.{startAt}
 use Rattle.buffer_pool.specs.Placing.{isAlloc}
-use Rattle.buffer_pool.specs.Sound.{Held, Orderly}
-use Rattle.buffer_pool.specs.Steps.{names, at, frameOf, frame, reservation}
+use Rattle.buffer_pool.specs.Sound.{Orderly}
+use Rattle.buffer_pool.specs.Steps.{at, frameOf, frame, reservation}
 use Rattle.buffer_pool.proofs.Order.{startOf, endOf}
-use Rattle.buffer_pool.proofs.Unchanged.{Fixed, fixed}
-use Rattle.buffer_pool.proofs.Handles as handles
+use Rattle.buffer_pool.proofs.Unchanged.{fixed}
+use Rattle.buffer_pool.proofs.Named.{Named, handle-alike, slot-one}
 use Rattle.buffer_pool.proofs.Ranges.{Apart, before, behind, orderly-apart}
 use Rattle.book.specs.Book.{sameHandle}
 use Rattle.book.proofs.Carried.{end-is}
@@ -30,49 +29,22 @@ use Rattle.book.proofs.Places.{Off, elsewhere, below, above}
 
 -- ---- Handles
 
-abbrev pub handleOf : ℕ → ℕ → ℕ → ℕ → Handle
-handleOf slot start length serial = record { slot = slot; start = start; length = length; serial = serial }
-
-handle-ext : {a b c d a′ b′ c′ d′ : ℕ} → a ≡ a′ → b ≡ b′ → c ≡ c′ → d ≡ d′ → handleOf a b c d ≡ handleOf a′ b′ c′ d′
-handle-ext p q r s = rw (p, q, r, s)
-
 pub same-is : (h k : Handle) → sameHandle h k ≡ true → h ≡ k
 unfolding sameHandle
 same-is h k e =
     let a = eqb-and (h .slot) (k .slot) e in
     let b = eqb-and (h .start) (k .start) (a .1) in
     let c = eqb-and (h .length) (k .length) (b .1) in
-    handle-ext (a .0) (b .0) (c .0) (eqb-true (h .serial) (k .serial) (c .1))
+    let d = eqb-and (h .serial) (k .serial) (c .1) in
+    handle-alike (a .0) (b .0) (c .0) (d .0) (eqb-true (h .caller) (k .caller) (d .1))
 
 pub same-self : (h : Handle) → sameHandle h h ≡ true
 unfolding sameHandle
 same-self h =
     both (eq-eqb (h .slot) (h .slot) refl)
     (both (eq-eqb (h .start) (h .start) refl)
-    (both (eq-eqb (h .length) (h .length) refl) (eq-eqb (h .serial) (h .serial) refl)))
-
--- the handle is its slot's, among these slots
-pub record Named (w : ℕ) (x : Fixed) (h : Handle) : Type 0 where
-  pub held : Held w (x .live) (h .slot)
-  pub start-is : h .start ≡ startAt (x .starts) (h .slot)
-  pub length-is : h .length ≡ startAt (x .lengths) (h .slot)
-  pub serial-is : h .serial ≡ startAt (x .serials) (h .slot)
-
-pub names-use : (w : ℕ) (r : BufferPool) (h : Handle) → names w r h ≡ true → Named w (fixed r) h
-names-use w r h e =
-    let N = handles.names-use w r h e in
-    record { held = N .here; start-is = N .start-is; length-is = N .length-is; serial-is = N .serial-is }
-
-pub names-make : (w : ℕ) (r : BufferPool) (h : Handle) → Named w (fixed r) h → names w r h ≡ true
-names-make w r h N =
-    handles.names-make w r h (record { here = N .held; start-is = N .start-is; length-is = N .length-is; serial-is = N .serial-is })
-
--- two handles of one slot are one
-pub slot-one : {w : ℕ} {x : Fixed} {h k : Handle} → Named w x h → Named w x k → h .slot ≡ k .slot → h ≡ k
-slot-one {x = x} N M e =
-    handle-ext e (N .start-is ∙ ap (startAt (x .starts)) e ∙ sym (M .start-is))
-    (N .length-is ∙ ap (startAt (x .lengths)) e ∙ sym (M .length-is))
-    (N .serial-is ∙ ap (startAt (x .serials)) e ∙ sym (M .serial-is))
+    (both (eq-eqb (h .length) (h .length) refl)
+    (both (eq-eqb (h .serial) (h .serial) refl) (eq-eqb (h .caller) (h .caller) refl))))
 
 -- ---- Where slices, frame and reservation lie
 
@@ -90,7 +62,7 @@ module _ (w : ℕ) (r : BufferPool) (S : Orderly w r) where
   module _ (h : Handle) (N : Named w (fixed r) h) where
     -- where it ends
     pub slice-end : h .start + h .length ≡ endOf r (h .slot)
-    slice-end = rw (N .start-is, N .length-is) (sym (end-is (r .starts) (r .lengths) (h .slot) (N .held .one)))
+    slice-end = rw (N .start-is, N .length-is) (sym (end-is (r .starts) (r .lengths) (h .slot) (N .here .one)))
 
     ranges-off : (q : Place) (start end : ℕ) → start ≤ q .start → q .start + q .length ≤ end
         → Apart (startOf r (h .slot)) (endOf r (h .slot)) start end → Off (slice h) q
@@ -104,7 +76,7 @@ module _ (w : ℕ) (r : BufferPool) (S : Orderly w r) where
       where
         clear : isAlloc (r .mode) ≡ false → r .«raw_offset» ≤ q .start
             → q .start + q .length ≤ r .«raw_offset» + r .«raw_len» + r .reserved → Off (slice h) q
-        clear e a b = ranges-off q _ _ a b (orderly-apart w r S .gathered e (h .slot) (N .held))
+        clear e a b = ranges-off q _ _ a b (orderly-apart w r S .gathered e (h .slot) (N .here))
 
         go : (mode : PoolMode) → r .mode ≡ mode → q .memory ≡ frameOf mode r .memory → frameOf mode r .start ≤ q .start
             → q .start + q .length ≤ frameOf mode r .start + frameOf mode r .length + r .reserved → Off (slice h) q
@@ -122,4 +94,4 @@ module _ (w : ℕ) (r : BufferPool) (S : Orderly w r) where
   slice-slice h k N M n =
       ranges-off h N (slice k) (startOf r (k .slot)) (endOf r (k .slot)) (omega (arith, M .start-is))
       (omega (arith, slice-end k M))
-      (orderly-apart w r S .slices (h .slot) (k .slot) (λ e. n (slot-one N M e)) (N .held) (M .held))
+      (orderly-apart w r S .slices (h .slot) (k .slot) (λ e. n (slot-one N M e)) (N .here) (M .here))

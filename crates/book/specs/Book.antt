@@ -31,10 +31,11 @@ book F R pairs = record { F = F; R = R; pairs = pairs }
 abbrev pub emptyBook : Book
 emptyBook = book [] [] []
 
--- two handles of the same four numbers
+-- two handles of the same five numbers: two live slices may have one serial, with two callers
 unfoldable pub sameHandle : Handle → Handle → Bool
 sameHandle h k =
-    eqb (h .slot) (k .slot) && (eqb (h .start) (k .start) && (eqb (h .length) (k .length) && eqb (h .serial) (k .serial)))
+    eqb (h .slot) (k .slot) && (eqb (h .start) (k .start) && (eqb (h .length) (k .length)
+    && (eqb (h .serial) (k .serial) && eqb (h .caller) (k .caller))))
 
 -- the pairs but for this handle's
 unfoldable pub without : Handle → List Pair → List Pair
@@ -61,7 +62,7 @@ noteCall b (Reserve len) v bytes = book (b .F) bytes (b .pairs)
 noteCall b (Commit n) v bytes = book (b .F ++ take n (b .R)) [] (b .pairs)
 noteCall b (Truncate n) v bytes = book (take n (b .F)) [] (b .pairs)
 -- "F and R become empty"
-noteCall b (Take destination) v bytes = book [] [] (entered v (b .F) (b .pairs))
+noteCall b (Take caller destination) v bytes = book [] [] (entered v (b .F) (b .pairs))
 -- "the pair with that handle leaves"
 noteCall b (Release h) v bytes = book (b .F) (b .R) (without h (b .pairs))
 -- a view: "nothing"

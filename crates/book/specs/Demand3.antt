@@ -52,7 +52,7 @@ pub record Shows (w : ℕ) (s : State) (v : Part) (p : Place) (bytes : List ℕ)
 -- what holds of record, memories and book, before the first entry and after each
 pub record Kept (w : ℕ) (s : State) (b : Book) : Type 0 where
   -- 8.4, 1: "the handles in the book are those of the live slots, one for each": a handle in the book names a live slot, with
-  -- that slot's start, length and serial, and every live slot has its handle in the book
+  -- that slot's start, length, serial and caller, and every live slot has its handle in the book
   pub live : (x : Pair) → Member x (b .pairs) → names w (s .pool) (x .handle) ≡ true
   pub booked : (p : ℕ) → Held w (s .pool .live) p → (x : Pair) × Member x (b .pairs) × (x .handle .slot ≡ p)
   -- 8.4, 2: "every live slice lies inside the pool memory, and the view of its handle shows exactly the bytes that the book has
@@ -65,10 +65,10 @@ pub record Kept (w : ℕ) (s : State) (b : Book) : Type 0 where
   pub apart-frame : (x : Pair) → Member x (b .pairs) → Apart (sliceOf x) (frame (s .pool))
   pub apart-reservation : (x : Pair) → Member x (b .pairs) → Apart (sliceOf x) (reservation (s .pool))
   -- 8.4, 5: "a take that copies leaves F at the start of its destination, and the destination's other bytes as they were", whatever
-  -- destination a take is lent now
-  pub copied : (destination : List ℕ) (n : ℕ)
-      → values (call w (s .pool) (s .lent) (Take destination) .call .answer) ≡ valued 0 noPlace noHandle n 0
-      → (n ≡ length (b .F)) × (call w (s .pool) (s .lent) (Take destination) .destination ≡ b .F ++ drop n destination)
+  -- caller takes now and whatever destination it is lent
+  pub copied : (caller : ℕ) (destination : List ℕ) (n : ℕ) → let o = call w (s .pool) (s .lent) (Take caller destination) in
+      values (o .call .answer) ≡ valued 0 noPlace noHandle n 0
+      → (n ≡ length (b .F)) × (o .destination ≡ b .F ++ drop n destination)
   -- 8.1, of a call lent "memories of other lengths": "it is refused with 2", whichever call is made now, and changes nothing:
   -- neither the record nor the memories and the destination that it was lent
   pub refused-other : (m : Memories) (c : Call) → misfit (s .pool) m ≡ true
@@ -92,7 +92,7 @@ abbrev pub blankCall : Call → Call
 blankCall (Reserve len) = Reserve len
 blankCall (Commit n) = Commit n
 blankCall (Truncate n) = Truncate n
-blankCall (Take destination) = Take (blank destination)
+blankCall (Take caller destination) = Take caller (blank destination)
 blankCall (Release h) = Release h
 blankCall (Look v) = Look v
 
@@ -104,8 +104,8 @@ calls (Own c ∷ es) = Own (blankCall c) ∷ calls es
 calls (Other m c ∷ es) = Other (blankMemories m) (blankCall c) ∷ calls es
 calls (Write v i byte ∷ es) = calls es
 
--- what is seen at a call: its answer (refusal, place, handle with its serial, count of mode changes), the record it leaves
--- (mode, live slots, their places and serials), and frame and reservation as viewed then
+-- what is seen at a call: its answer (refusal, place, handle with its serial and caller, count of mode changes), the record it
+-- leaves (mode, live slots, their places, serials and callers), and frame and reservation as viewed then
 pub record Seen : Type 0 where
   pub answer : Answer
   pub pool : BufferPool

@@ -20,8 +20,9 @@ use Rattle.buffer_pool.specs.declared.buffer_pool.Called.{Called}
 use Rattle.buffer_pool.specs.Moves.{Memories}
 use Rattle.buffer_pool.specs.Placing.{place, tooLong}
 use Rattle.buffer_pool.specs.Soundness.{sound}
+use Rattle.buffer_pool.specs.Record.{callerCount}
 use Rattle.buffer_pool.specs.Values.{refusal, values}
-use Rattle.buffer_pool.specs.Steps.{refused, frame, reserveOn, reserveStep, commitStep, truncateStep, mostSerials, nextHandle, takeOn, takeStep, names, releaseStep}
+use Rattle.buffer_pool.specs.Steps.{refused, frame, reserveOn, reserveStep, commitStep, truncateStep, mostSerials, givenTo, nextHandle, takeOn, takeStep, names, releaseStep}
 use Rattle.buffer_pool.specs.Calls.{Outcome, outcome, misfit, guarded, guardedCall, reserve, commit, truncate, copiedOut, take, release, shown, hidden, frameView, reservationView, sliceView}
 use Rattle.buffer_pool.specs.Vocabulary.{Part, TheFrame, TheReservation, TheSlice, Call, Reserve, Commit, Truncate, Take, Release, Look, viewOf, viewAnswer, call, numberOf, doneUnless, partOf, Result}
 
@@ -57,19 +58,23 @@ module _ (w : ℕ) (r : BufferPool) where
   unfolding truncateStep Result
   truncate-answers n u = refl
 
-  take-answers : (destination : List ℕ) → Answers (Take destination) (takeStep w r (length destination))
+  take-answers : (caller : ℕ) (destination : List ℕ)
+      → Answers (Take caller destination) (takeStep w r caller (length destination))
   unfolding takeStep takeOn refusal Result
-  take-answers destination =
-      go (eqb (frame r .length) 0) (ltb (length destination) (frame r .length)) (leb mostSerials (r .given)) (r .mode)
+  take-answers caller destination =
+      go (leb callerCount caller) (eqb (frame r .length) 0) (ltb (length destination) (frame r .length))
+      (leb mostSerials (givenTo r caller)) (r .mode)
     where
-      go : (z long spent : Bool) (mode : PoolMode) → Answers (Take destination) (takeOn z long spent mode w r)
-      go true long spent mode u = inr (0, refl)
-      go false long true Back u = absurd (omega (arith, u))
-      go false long false Back u = inl (nextHandle r, omega arith, refl)
-      go false long true (Front f) u = absurd (omega (arith, u))
-      go false long false (Front f) u = inl (nextHandle r, omega arith, refl)
-      go false true spent Alloc u = absurd (omega (arith, u))
-      go false false spent Alloc u = inr (_, refl)
+      go : (none z long spent : Bool) (mode : PoolMode)
+          → Answers (Take caller destination) (takeOn none z long spent mode w caller r)
+      go true z long spent mode u = absurd (omega (arith, u))
+      go false true long spent mode u = inr (0, refl)
+      go false false long true Back u = absurd (omega (arith, u))
+      go false false long false Back u = inl (nextHandle r caller, omega arith, refl)
+      go false false long true (Front f) u = absurd (omega (arith, u))
+      go false false long false (Front f) u = inl (nextHandle r caller, omega arith, refl)
+      go false false true spent Alloc u = absurd (omega (arith, u))
+      go false false false spent Alloc u = inr (_, refl)
 
   release-answers : (h : Handle) → Answers (Release h) (releaseStep w r h)
   unfolding releaseStep refusal Result
@@ -113,7 +118,8 @@ module _ (w : ℕ) (r : BufferPool) where
     call-answers (Reserve len) = guarded-answers (Reserve len) [] _ (reserve-answers len)
     call-answers (Commit n) = guarded-answers (Commit n) [] _ (commit-answers n)
     call-answers (Truncate n) = guarded-answers (Truncate n) [] _ (truncate-answers n)
-    call-answers (Take destination) = guarded-answers (Take destination) destination _ (take-answers destination)
+    call-answers (Take caller destination) =
+        guarded-answers (Take caller destination) destination _ (take-answers caller destination)
     call-answers (Release h) = guarded-answers (Release h) [] _ (release-answers h)
     call-answers (Look part) = λ u.
         ap (λ (v : View). values (viewAnswer (v .number) (v .place)))

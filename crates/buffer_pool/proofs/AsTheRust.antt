@@ -31,7 +31,9 @@ use Rattle.buffer_pool.proofs.SoundKept.{sound-new, sound-kept, Reserve
 use Rattle.buffer_pool.proofs.RustCalls.{written-agrees, new-as-rust, reserve-as-rust, commit-as-rust, truncate-as-rust, take-as-rust, release-as-rust}
 use Rattle.buffer_pool.proofs.RefusedKeeps.{refused-keeps, refused-written}
 use Rattle.buffer_pool.proofs.Answers.{view-number, write-number, call-answers}
-use Rattle.buffer_pool.proofs.Handles.{Named, names-use, Holds, new-holds, reserve-holds, commit-holds, truncate-holds, take-holds, release-holds}
+use Rattle.buffer_pool.proofs.Unchanged.{fixed}
+use Rattle.buffer_pool.proofs.Named.{Named, names-use}
+use Rattle.buffer_pool.proofs.Handles.{Holds, new-holds, reserve-holds, commit-holds, truncate-holds, take-holds, release-holds}
 use Rattle.buffer_pool.proofs.Joined.{holderOf, Joined, frame-place, joined-orderly, joined-fits, slice-part, part-seen, part-agrees, shown-agrees}
 
 -- ---- What we give
@@ -122,9 +124,10 @@ module _ (w : ℕ) (s : Ours) (t : Theirs) (J : Joined w s t) where
   unfolding call truncate
   truncate-call n = rw (J .sound-is, joined-fits w s t J) refl
 
-  take-call : (destination : List ℕ) → call w r m (Take destination) .call ≡ takeStep w r (length destination)
+  take-call : (caller : ℕ) (destination : List ℕ)
+      → call w r m (Take caller destination) .call ≡ takeStep w r caller (length destination)
   unfolding call taken copiedOut
-  take-call destination = rw (J .sound-is, joined-fits w s t J) refl
+  take-call caller destination = rw (J .sound-is, joined-fits w s t J) refl
 
   release-call : (h : Handle) → call w r m (Release h) .call ≡ releaseStep w r h
   unfolding call release
@@ -184,28 +187,29 @@ module _ (w : ℕ) (s : Ours) (t : Theirs) (J : Joined w s t) where
             (truncate-holds w r (s .held) (J .holds) n) (L .holds) (J .held-is);
       }
 
-  take-follows : (destination : List ℕ) → numberOf w r m (Take destination) ≡ 0 → Follows (Make (Take destination))
+  take-follows : (caller : ℕ) (destination : List ℕ) → numberOf w r m (Take caller destination) ≡ 0
+      → Follows (Make (Take caller destination))
   unfolding numberOf call Result rustStep rustCall step given
-  take-follows destination u =
-      let o = taken w r m destination in
-      let L = take-as-rust w r m p (J .stands) destination u in
+  take-follows caller destination u =
+      let o = taken w r m caller destination in
+      let L = take-as-rust w r m p (J .stands) caller destination u in
       let said = values (o .call .answer) in
       let slice = sliceOf said (o .destination) in
       record {
         left = theirs (L .left) (rustHolding slice (t .held));
         run-is = rw (L .run-is) refl;
         joined =
-            call-joined (λ c. holding (values (c .answer)) (s .held)) (take-call destination)
-            (sound-kept w r (TakeStep (length destination)) (J .sound-is))
-            (take-holds w r (s .held) (J .holds) (length destination) (joined-orderly w s t J)) (L .holds)
+            call-joined (λ c. holding (values (c .answer)) (s .held)) (take-call caller destination)
+            (sound-kept w r (TakeStep caller (length destination)) (J .sound-is))
+            (take-holds w r (s .held) (J .holds) caller (length destination) (joined-orderly w s t J)) (L .holds)
             (ap (rustHolding slice) (J .held-is) ∙ taken-held said (o .destination) (s .held));
       }
 
   -- a handle that is released names a slice, which is held
-  released-named : (h : Handle) → refusal (releaseStep w r h .answer) ≡ 0 → Named w r h
+  released-named : (h : Handle) → refusal (releaseStep w r h .answer) ≡ 0 → Named w (fixed r) h
   unfolding releaseStep refusal
   released-named h =
-      pick-cases (λ (c : Called). refusal (c .answer) ≡ 0 → Named w r h) (names w r h) (λ e u. names-use w r h e)
+      pick-cases (λ (c : Called). refusal (c .answer) ≡ 0 → Named w (fixed r) h) (names w r h) (λ e u. names-use w r h e)
       (λ e u. absurd (omega (arith, u)))
 
   release-follows : (h : Handle) → numberOf w r m (Release h) ≡ 0 → Follows (Make (Release h))
@@ -228,7 +232,7 @@ module _ (w : ℕ) (s : Ours) (t : Theirs) (J : Joined w s t) where
   follows (Make (Reserve len)) u = reserve-follows len u
   follows (Make (Commit n)) u = commit-follows n u
   follows (Make (Truncate n)) u = truncate-follows n u
-  follows (Make (Take destination)) u = take-follows destination u
+  follows (Make (Take caller destination)) u = take-follows caller destination u
   follows (Make (Release h)) u = release-follows h u
   follows (Make (Look part)) u = look-follows part u
   follows (Write part i byte) u = write-follows part i byte (sym (write-number (view w s part .number)) ∙ u)
@@ -239,8 +243,9 @@ held-stays : (w : ℕ) (s : Ours) (c : Call) → 0 < numberOf w (s .pool) (s .me
 held-stays w s (Reserve len) h = refl
 held-stays w s (Commit n) h = refl
 held-stays w s (Truncate n) h = refl
-held-stays w s (Take destination) h =
-    ap (λ (o : Outcome). holding (values (o .call .answer)) (s .held)) (refused-keeps w (s .pool) (s .memory) (Take destination) h)
+held-stays w s (Take caller destination) h =
+    ap (λ (o : Outcome). holding (values (o .call .answer)) (s .held))
+    (refused-keeps w (s .pool) (s .memory) (Take caller destination) h)
 held-stays w s (Release h) k = go (numberOf w (s .pool) (s .memory) (Release h)) k
   where
     go : (n : ℕ) → 0 < n → letGo n (h .slot) (s .held) ≡ s .held

@@ -21,7 +21,7 @@ use Rattle.buffer_pool.specs.declared.buffer_pool.Place.{Place}
 use Rattle.buffer_pool.specs.declared.buffer_pool.Answer.the-variants.{Done, Reserved}
 use Rattle.buffer_pool.specs.declared.buffer_pool.Called.{Called}
 use Rattle.buffer_pool.specs.declared.placing.Decided.{Decided}
-use Rattle.buffer_pool.specs.Record.{byteLimit, newRecord, placed}
+use Rattle.buffer_pool.specs.Record.{byteLimit, callerCount, newRecord, placed}
 use Rattle.buffer_pool.specs.Moves.{Memories, memories, act, perform, allInside}
 use Rattle.buffer_pool.specs.MoveList.{listed}
 use Rattle.buffer_pool.specs.Placing.{Decision, isAlloc, resets, place, tooLong}
@@ -29,7 +29,7 @@ use Rattle.buffer_pool.specs.Deciding.{frontLen, Placeable, Decides, dec
 use Rattle.buffer_pool.specs.Soundness.{sound}
 use Rattle.buffer_pool.specs.Sound.{Orderly, InMode}
 use Rattle.buffer_pool.specs.Values.{refusal, values}
-use Rattle.buffer_pool.specs.Steps.{called, refused, at, frameOf, reservation, reserved, pooled, takeOn, takeStep, mostSerials, takeMoves, reserveOn, reserveStep, commitStep, truncateStep, releaseStep}
+use Rattle.buffer_pool.specs.Steps.{called, refused, at, frameOf, reservation, reserved, pooled, takeOn, takeStep, mostSerials, givenTo, takeMoves, reserveOn, reserveStep, commitStep, truncateStep, releaseStep}
 use Rattle.buffer_pool.specs.Calls.{Outcome, outcome, misfit, numbered, cause, guardedCall, new, reserve, commit, truncate, copiedOut, take, release}
 use Rattle.buffer_pool.proofs.Soundness.{sound-use}
 use Rattle.buffer_pool.proofs.ByteLaws.{copied-none}
@@ -393,7 +393,7 @@ decided-inside p pool overflow len k e z d D t = inside-memories p (memories poo
 -- ---- Take
 
 -- what a take copies is within the destination and within the kept bytes
-module _ (p : BufferPool) (O : Orderly 8 p) (destination : ℕ) where
+module _ (p : BufferPool) (O : Orderly 8 p) (caller destination : ℕ) where
   pub record Bounded (n : ℕ) : Type 0 where
     pub within-destination : n ≤ destination
     pub within-kept : n ≤ p .kept
@@ -401,25 +401,26 @@ module _ (p : BufferPool) (O : Orderly 8 p) (destination : ℕ) where
   nothing : Bounded 0
   nothing = record { within-destination = omega arith; within-kept = omega arith }
 
-  pooled-bounded : (spent : Bool) (mode : PoolMode) (n : ℕ) → Bounded (values (pooled spent 8 p mode n .answer) .length)
+  pooled-bounded : (spent : Bool) (mode : PoolMode) (n : ℕ) → Bounded (values (pooled spent 8 caller p mode n .answer) .length)
   pooled-bounded true mode n = nothing
   pooled-bounded false mode n = nothing
 
-  take-bounded : (empty long spent : Bool) (mode : PoolMode) → ltb destination (frameOf mode p .length) ≡ long → InMode 8 mode p (p .reserved)
-      → Bounded (values (takeOn empty long spent mode 8 p .answer) .length)
+  take-bounded : (none empty long spent : Bool) (mode : PoolMode) → ltb destination (frameOf mode p .length) ≡ long
+      → InMode 8 mode p (p .reserved) → Bounded (values (takeOn none empty long spent mode 8 caller p .answer) .length)
   unfolding takeOn
-  take-bounded true long spent Back e I = nothing
-  take-bounded true long spent (Front f) e I = nothing
-  take-bounded true long spent Alloc e I = nothing
-  take-bounded false long spent Back e I = pooled-bounded spent Back _
-  take-bounded false long spent (Front f) e I = pooled-bounded spent _ _
-  take-bounded false true spent Alloc e I = nothing
-  take-bounded false false spent Alloc e I =
+  take-bounded true empty long spent mode e I = nothing
+  take-bounded false true long spent mode e I = nothing
+  take-bounded false false long spent Back e I = pooled-bounded spent Back _
+  take-bounded false false long spent (Front f) e I = pooled-bounded spent _ _
+  take-bounded false false true spent Alloc e I = nothing
+  take-bounded false false false spent Alloc e I =
       record { within-destination = omega (arith, ltb-false destination (p .cursor) e); within-kept = omega (arith, I .fits) }
 
-  pub copy-bounded : Bounded (values (takeStep 8 p destination .answer) .length)
+  pub copy-bounded : Bounded (values (takeStep 8 p caller destination .answer) .length)
   unfolding takeStep
-  copy-bounded = take-bounded (eqb (frameOf (p .mode) p .length) 0) _ (leb mostSerials (p .given)) (p .mode) refl (O .in-mode)
+  copy-bounded =
+      take-bounded (leb callerCount caller) (eqb (frameOf (p .mode) p .length) 0) _ (leb mostSerials (givenTo p caller)) (p .mode) refl
+      (O .in-mode)
 
 copies : (p : BufferPool) (pool overflow destination : List ℕ) (c : Called) (n : ℕ) → (n ≡ 0 → ⊥) → (filled left : List ℕ)
     → filled ≡ copied overflow 0 n destination 0 → left ≡ moved overflow n (p .kept - n) 0
@@ -428,39 +429,40 @@ unfolding copiedOut takeMoves perform act
 copies p pool overflow destination c zero y filled left h i = absurd (y refl)
 copies p pool overflow destination c (suc n) y filled left h i = rw (h, i)
 
-module _ (p : BufferPool) (pool overflow destination : List ℕ) (k : ℕ) (e : k ≡ numbered 8 p (memories pool overflow) (refusal (takeStep 8 p (length destination) .answer))) where
+module _ (p : BufferPool) (pool overflow destination : List ℕ) (caller k : ℕ)
+    (e : k ≡ numbered 8 p (memories pool overflow) (refusal (takeStep 8 p caller (length destination) .answer))) where
   copies-none : (c : Called) → copiedOut c p (memories pool overflow) destination 0 ≡ outcome c (memories pool overflow) destination
   unfolding copiedOut takeMoves perform
   copies-none c = ap (outcome c (memories pool overflow)) (sym (copied-none overflow 0 destination 0))
 
   -- a take that its step refuses copies nothing
-  refused-copies : (refusal (takeStep 8 p (length destination) .answer) ≡ 0 → ⊥)
-      → copiedOut (takeStep 8 p (length destination)) p (memories pool overflow) destination (values (takeStep 8 p (length destination) .answer) .length)
-      ≡ outcome (refused p (refusal (takeStep 8 p (length destination) .answer))) (memories pool overflow) destination
+  refused-copies : (refusal (takeStep 8 p caller (length destination) .answer) ≡ 0 → ⊥)
+      → copiedOut (takeStep 8 p caller (length destination)) p (memories pool overflow) destination (values (takeStep 8 p caller (length destination) .answer) .length)
+      ≡ outcome (refused p (refusal (takeStep 8 p caller (length destination) .answer))) (memories pool overflow) destination
   refused-copies o =
-      ap (λ (x : Called). copiedOut x p (memories pool overflow) destination (values (x .answer) .length)) (take-own p (length destination) o)
-      ∙ copies-none (refused p (refusal (takeStep 8 p (length destination) .answer)))
+      ap (λ (x : Called). copiedOut x p (memories pool overflow) destination (values (x .answer) .length)) (take-own p caller (length destination) o)
+      ∙ copies-none (refused p (refusal (takeStep 8 p caller (length destination) .answer)))
 
-  pub take-turned : (k ≡ 0 → ⊥) → (c : Called) → c ≡ refused p k → outcome c (memories pool overflow) destination ≡ take 8 p (memories pool overflow) destination
+  pub take-turned : (k ≡ 0 → ⊥) → (c : Called) → c ≡ refused p k → outcome c (memories pool overflow) destination ≡ take 8 p (memories pool overflow) caller destination
   unfolding take
   take-turned n c f = turned-own p (memories pool overflow) _ k e n destination c _ refused-copies f
 
   guarded-none : k ≡ 0 → 0 ≡ cause 8 p (memories pool overflow)
   guarded-none z = none-guarded p (memories pool overflow) _ k e z
 
-  module _ (z : k ≡ 0) (c : Called) (f : c ≡ takeStep 8 p (length destination)) (n : ℕ) (g : n ≡ values (c .answer) .length) where
-    length-is : n ≡ values (takeStep 8 p (length destination) .answer) .length
+  module _ (z : k ≡ 0) (c : Called) (f : c ≡ takeStep 8 p caller (length destination)) (n : ℕ) (g : n ≡ values (c .answer) .length) where
+    length-is : n ≡ values (takeStep 8 p caller (length destination) .answer) .length
     length-is = g ∙ ap (λ (x : Called). values (x .answer) .length) f
 
-    through-take : (o : Outcome) → o ≡ copiedOut c p (memories pool overflow) destination n → o ≡ take 8 p (memories pool overflow) destination
+    through-take : (o : Outcome) → o ≡ copiedOut c p (memories pool overflow) destination n → o ≡ take 8 p (memories pool overflow) caller destination
     unfolding take
     through-take o h = let-through p (memories pool overflow) 0 (guarded-none z) refl destination o _ (h ∙ rw (length-is, f))
 
-    pub take-nothing : n ≡ 0 → outcome c (memories pool overflow) destination ≡ take 8 p (memories pool overflow) destination
+    pub take-nothing : n ≡ 0 → outcome c (memories pool overflow) destination ≡ take 8 p (memories pool overflow) caller destination
     take-nothing y = through-take _ (rw y (sym (copies-none c)))
 
-    bounded : Bounded p (through-orderly p (memories pool overflow) 0 (guarded-none z) refl) (length destination) n
-    bounded = rw length-is (copy-bounded p (through-orderly p (memories pool overflow) 0 (guarded-none z) refl) (length destination))
+    bounded : Bounded p (through-orderly p (memories pool overflow) 0 (guarded-none z) refl) caller (length destination) n
+    bounded = rw length-is (copy-bounded p (through-orderly p (memories pool overflow) 0 (guarded-none z) refl) caller (length destination))
 
     pub copied-kept : n ≤ p .kept
     copied-kept = bounded .within-kept
@@ -472,5 +474,5 @@ module _ (p : BufferPool) (pool overflow destination : List ℕ) (k : ℕ) (e : 
     kept-in = omega (arith, through-orderly p (memories pool overflow) 0 (guarded-none z) refl .kept-within, through-overflow p (memories pool overflow) 0 (guarded-none z) refl)
 
     pub take-copies : (n ≡ 0 → ⊥) → (filled left : List ℕ) → filled ≡ copied overflow 0 n destination 0 → left ≡ moved overflow n (p .kept - n) 0
-        → outcome c (memories pool left) filled ≡ take 8 p (memories pool overflow) destination
+        → outcome c (memories pool left) filled ≡ take 8 p (memories pool overflow) caller destination
     take-copies y filled left h i = through-take _ (copies p pool overflow destination c n y filled left h i)

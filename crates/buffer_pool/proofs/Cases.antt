@@ -1,7 +1,9 @@
 -- The cases of SPECIFICATION 11, by computation: each line of the table shows what the SPECIFICATION says of it, on the definitions
--- and on the Rust's. Assumes nothing.
+-- and on the Rust's; of callers, which the Rust does not have, on the definitions. Assumes nothing.
 use mathlib.Core.Path.{_≡_, refl}
 use mathlib.Core.List.{[], _∷_, _++_, map}
+use Rattle.buffer_pool.specs.Vocabulary.{call}
+use Rattle.buffer_pool.specs.CallerCases.{callerTable, answersOn, answered, expected}
 use Rattle.buffer_pool.specs.Computing.{definitions, rustDefinitions}
 use Rattle.buffer_pool.specs.Cases.{MoveCase, octet, octetInFront, table, twice, moveTable, playTo, movesBy, rustPlayTo, rustMovesBy, observed, letter, play, see, playAll, shownBy, wanted, rustOffer, watched, rustFrame, rustWritePool, rustWrite, reserved′, committed, taken, released, rustPlay, rustPlayAll, rustShownBy}
 
@@ -21,3 +23,8 @@ move-cases = refl
 pub rust-move-cases : map rustMovesBy moveTable ≡ map (λ (c : MoveCase). c .rusts) moveTable
 unfolding rustDefinitions octet octetInFront moveTable watched rustFrame reserved′ committed taken released rustPlay rustPlayTo rustMovesBy
 rust-move-cases = refl
+
+-- 11.26 to 11.31
+pub caller-cases : map answered callerTable ≡ map expected callerTable
+unfolding definitions call callerTable answersOn answered expected
+caller-cases = refl

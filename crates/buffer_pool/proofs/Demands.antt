@@ -1,7 +1,7 @@
 -- Demands 1 and 2, and W-203, stated for the pool of 8 slots over the definitions of specs/Vocabulary.antt, Calls.antt, Causes.antt,
 -- Together.antt and RustMoves.antt. The proofs stand in Answers, RefusedKeeps, ViewPlaces, OnlyForCause, AsTheRust, RustAgrees and
 -- RustCalls, for every slot count. No statement on a call has a premise on record or memories (SPECIFICATION 3.2): "Nothing is left
--- for the caller to test beforehand."; those that set it beside the Rust name a pool of the Rust that stands for them. Assumes
+-- to be tested beforehand."; those that set it beside the Rust name a pool of the Rust that stands for them. Assumes
 -- nothing.
 use mathlib.Core.Path.{_≡_, refl, sym, ap, _∙_}
 use mathlib.Core.Bool.{true, false, _&&_}

@@ -33,7 +33,9 @@ use Rattle.buffer_pool.specs.Vocabulary.{Part, TheFrame, TheReservation,
 use Rattle.buffer_pool.specs.Together.{Seen, seen, Given, Shown, Ours, view, seenIn, shownBy, Holder, holder, Theirs, rustFrameIn, rustFrame, rustReservation, heldPlace, rustPlace, rustMemory, rustSeen, rustShown}
 use Rattle.buffer_pool.proofs.Soundness.{sound-use}
 use Rattle.buffer_pool.proofs.RustCalls.{InKept, frame-agrees}
-use Rattle.buffer_pool.proofs.Handles.{Named, names-use, names-make, Has, Holds}
+use Rattle.buffer_pool.proofs.Handles.{Has, Holds}
+use Rattle.buffer_pool.proofs.Named.{Named, names-use, names-make}
+use Rattle.buffer_pool.proofs.Unchanged.{fixed}
 
 -- ---- Joined pools
 
@@ -162,11 +164,11 @@ module _ (w : ℕ) (s : Ours) (t : Theirs) (J : Joined w s t) where
   unfolding viewOf sliceView
   slice-view h = unguarded hidden _
 
-  slice-named : (h : Handle) → Named w r h → view w s (TheSlice h) ≡ shown (at Pool (h .start) (h .length))
+  slice-named : (h : Handle) → Named w (fixed r) h → view w s (TheSlice h) ≡ shown (at Pool (h .start) (h .length))
   slice-named h N = slice-view h ∙ rw (names-make w r h N) refl
 
   -- the slice of a slot among the handles held
-  place-held : (h : Handle) → Named w r h → (l : List Handle) → ((k : Handle) → Has k l → Named w r k) → Has h l
+  place-held : (h : Handle) → Named w (fixed r) h → (l : List Handle) → ((k : Handle) → Has k l → Named w (fixed r) k) → Has h l
       → heldPlace (h .slot) (map holderOf l) ≡ done (at Pool (h .start) (h .length))
   unfolding heldPlace Has
   place-held h N [] all x = absurd x
@@ -185,7 +187,7 @@ module _ (w : ℕ) (s : Ours) (t : Theirs) (J : Joined w s t) where
       go false e (inl y) rest = absurd (eqb-false (k .slot) (h .slot) e (ap (λ (j : Handle). j .slot) (sym y)))
       go false e (inr y) rest = rest y
 
-  pub slice-part : (h : Handle) → Named w r h → Agrees (TheSlice h)
+  pub slice-part : (h : Handle) → Named w (fixed r) h → Agrees (TheSlice h)
   slice-part h N =
       record {
         at-place = at Pool (h .start) (h .length);
@@ -202,10 +204,10 @@ module _ (w : ℕ) (s : Ours) (t : Theirs) (J : Joined w s t) where
       → InKept (place .memory) (place .start + place .length) (r .kept) → rustSeen p place ≡ seenIn w s part
   part-seen part place e k = seen-agrees place k ∙ viewed part place e
 
-  slice-seen : (h : Handle) → Named w r h → rustSeen p (at Pool (h .start) (h .length)) ≡ seenIn w s (TheSlice h)
+  slice-seen : (h : Handle) → Named w (fixed r) h → rustSeen p (at Pool (h .start) (h .length)) ≡ seenIn w s (TheSlice h)
   slice-seen h N = part-seen (TheSlice h) (at Pool (h .start) (h .length)) (slice-named h N) tt
 
-  slices-seen : (l : List Handle) → ((h : Handle) → Has h l → Named w r h)
+  slices-seen : (l : List Handle) → ((h : Handle) → Has h l → Named w (fixed r) h)
       → map (λ h. rustSeen p (h .place)) (map holderOf l) ≡ map (λ h. seenIn w s (TheSlice h)) l
   unfolding Has
   slices-seen [] all = refl

@@ -37,6 +37,7 @@ pub mod RefusedKeeps
 pub mod FrameLength
 pub mod OnlyForCause
 pub mod Answers
+pub mod Named
 pub mod Handles
 pub mod Joined
 pub mod AsTheRust

@@ -7,32 +7,31 @@ use mathlib.Core.List.{List, [], _∷_}
 use mathlib.Core.Logic.{_⊎_, inl, inr}
 use Prim.Native.Nat.{ℕ, suc, _+_}
 use native.Mathlib.Omega.{arith}
-use borrow.Author.Tests.{eqb-true, eqb-false, lt-ltb, le-ltb}
+use borrow.Author.Tests.{eqb-false, eqb-true, le-ltb, lt-ltb, ltb-false, ltb-true}
 use lib.Dec.{leb, ltb, eqb}
 use lib.ListN.{length}
 use lib.Seq.{length-take-le}
 use Rattle.laws.specs.Tests.{pick}
-use Rattle.laws.specs.Live.{liveAt, released}
+use Rattle.laws.specs.Live.{liveAt}
 use Rattle.buffer_pool.specs.declared.slice.Handle.{Handle}
 use Rattle.buffer_pool.specs.declared.buffer_pool.BufferPool.{BufferPool}
 use Rattle.buffer_pool.specs.declared.buffer_pool.PoolMode.{PoolMode}
 use Rattle.buffer_pool.specs.declared.buffer_pool.PoolMode.the-variants.{Back, Front, Alloc}
 use Rattle.buffer_pool.specs.declared.buffer_pool.Memory.the-variants.{Pool}
 use Rattle.buffer_pool.specs.declared.buffer_pool.Answer.the-variants.{Done}
-use Rattle.buffer_pool.specs.declared.buffer_pool.Called.{Called}
-use Rattle.buffer_pool.specs.Record.{byteLimit, startAt, marked}
+use Rattle.buffer_pool.specs.Record.{byteLimit, callerCount, startAt}
 use Rattle.buffer_pool.specs.Moves.{Memories}
 use Rattle.buffer_pool.specs.Placing.{Decision, place, tooLong, isAlloc}
 use Rattle.buffer_pool.specs.Soundness.{sound}
 use Rattle.buffer_pool.specs.Sound.{Orderly}
 use Rattle.buffer_pool.specs.Values.{refusal}
-use Rattle.buffer_pool.specs.Steps.{called, refused, at, frame, frameOf, reservation, reserveOn, reserveStep, resized, reframed, commitStep, truncateStep, mostSerials, takeOn, takeStep, names, releaseStep}
+use Rattle.buffer_pool.specs.Steps.{called, refused, at, frame, frameOf, reservation, reserveOn, reserveStep, resized, reframed, commitStep, truncateStep, mostSerials, givenTo, takeOn, takeStep, names, freed, releaseStep}
 use Rattle.buffer_pool.specs.declared.buffer_pool.View.{View}
 use Rattle.buffer_pool.specs.Calls.{Outcome, outcome, misfit, guarded, guardedCall, newOn, new, reserve, commit, truncate, copiedOut, take, release, hidden, shown, frameView, reservationView, sliceView}
 use Rattle.buffer_pool.specs.Rust.{RustPool, rust-reserve}
 use Rattle.buffer_pool.specs.AsRust.{rustOf, heapOf, Mirrors, Stands}
 use Rattle.buffer_pool.specs.Vocabulary.{Part, TheFrame, TheReservation, TheSlice, Call, Reserve, Commit, Truncate, Take, Release, Look, viewOf, call, numberOf}
-use Rattle.buffer_pool.specs.Causes.{unsound, tooLarge, inOverflow, usesHeap, heapTooShort, pastReservation, destinationTooShort, unknown, serialsExhausted, Cause, cause, viewCauses, ownCauses, causes, newCauses, firstCause, First}
+use Rattle.buffer_pool.specs.Causes.{unsound, tooLarge, inOverflow, usesHeap, heapTooShort, pastReservation, destinationTooShort, unknownCaller, unknown, serialsExhausted, Cause, cause, viewCauses, ownCauses, causes, newCauses, firstCause, First}
 use Rattle.buffer_pool.proofs.ViewPlaces.{fits}
 use Rattle.buffer_pool.proofs.Soundness.{sound-use}
 use Rattle.buffer_pool.proofs.Answers.{view-number}
@@ -111,18 +110,23 @@ none : 0 ≡ firstCause []
 unfolding firstCause
 none = refl
 
-take-first : (w : ℕ) (r : BufferPool) (destination : List ℕ)
-    → refusal (takeStep w r (length destination) .answer)
-    ≡ firstCause (cause 6 (destinationTooShort r destination) ∷ cause 8 (serialsExhausted r) ∷ [])
-unfolding takeStep takeOn refusal destinationTooShort serialsExhausted firstCause
-take-first w r destination = go (r .mode) (eqb (frame r .length) 0) refl (leb mostSerials (r .given))
+take-first : (w : ℕ) (r : BufferPool) (caller : ℕ) (destination : List ℕ)
+    → refusal (takeStep w r caller (length destination) .answer)
+    ≡ firstCause
+    (cause 12 (unknownCaller caller)
+    ∷ cause 6 (destinationTooShort r destination)
+    ∷ cause 8 (serialsExhausted r caller)
+    ∷ [])
+unfolding takeStep takeOn refusal unknownCaller destinationTooShort serialsExhausted firstCause
+take-first w r caller destination =
+    called-by (leb callerCount caller) _ _ _ (go (r .mode) (eqb (frame r .length) 0) refl (leb mostSerials (givenTo r caller)))
   where
     room : ℕ
     room = length destination
 
     go : (mode : PoolMode) → let n = frameOf mode r .length in
         (z : Bool) → eqb n 0 ≡ z → (spent : Bool)
-        → refusal (takeOn z (ltb room n) spent mode w r .answer)
+        → refusal (takeOn false z (ltb room n) spent mode w caller r .answer)
         ≡ pick (inOverflow (frameOf mode r .memory) && ltb room n) 6
         (pick (not (inOverflow (frameOf mode r .memory)) && (ltb 0 n && spent)) 8 0)
     go Back true e spent = rw (le-ltb 0 (r .«raw_len») (omega (arith, eqb-true (r .«raw_len») 0 e))) refl
@@ -134,33 +138,47 @@ take-first w r destination = go (r .mode) (eqb (frame r .length) 0) refl (leb mo
     go Alloc true e spent = rw (le-ltb room (r .cursor) (omega (arith, eqb-true (r .cursor) 0 e))) refl
     go Alloc false e spent = long (ltb room (r .cursor))
       where
-        long : (t : Bool) → refusal (takeOn false t spent Alloc w r .answer) ≡ pick (true && t) 6 (pick false 8 0)
+        long : (t : Bool) → refusal (takeOn false false t spent Alloc w caller r .answer) ≡ pick (true && t) 6 (pick false 8 0)
         long true = refl
         long false = refl
 
+    called-by : (none z long spent : Bool) {rest : ℕ} → refusal (takeOn false z long spent (r .mode) w caller r .answer) ≡ rest
+        → refusal (takeOn none z long spent (r .mode) w caller r .answer) ≡ pick none 12 rest
+    called-by true z long spent e = refl
+    called-by false z long spent e = e
+
+-- above 3 is not below the count
+above : (caller : ℕ) → ltb 3 caller ≡ not (ltb caller callerCount)
+above caller = go (ltb caller callerCount) refl
+  where
+    go : (t : Bool) → ltb caller callerCount ≡ t → ltb 3 caller ≡ not t
+    go true e = le-ltb 3 caller (omega (arith, ltb-true caller callerCount e))
+    go false e = lt-ltb 3 caller (omega (arith, ltb-false caller callerCount e))
+
 unknown-is : (w : ℕ) (r : BufferPool) (h : Handle) → unknown w r h ≡ not (names w r h)
-unfolding unknown names
+unfolding unknown unknownCaller names
 unknown-is w r h =
     go (leb 1 (h .slot)) (leb (h .slot) w) (liveAt w (r .live) (h .slot)) (eqb (h .start) (startAt (r .starts) (h .slot)))
     (eqb (h .length) (startAt (r .lengths) (h .slot))) (eqb (h .serial) (startAt (r .serials) (h .slot)))
+    (eqb (h .caller) (startAt (r .callers) (h .slot))) (ltb (h .caller) callerCount) (ltb 3 (h .caller)) (above (h .caller))
   where
-    go : (a b c d e f : Bool)
-        → (not (a && b) || (not c || (not d || (not e || not f)))) ≡ not (a && (b && (c && (d && (e && f)))))
-    go false b c d e f = refl
-    go true false c d e f = refl
-    go true true false d e f = refl
-    go true true true false e f = refl
-    go true true true true false f = refl
-    go true true true true true f = refl
+    go : (a b c d e f g k u : Bool) → u ≡ not k
+        → (not (a && b) || (not c || (not d || (not e || (not f || (not g || u))))))
+        ≡ not (a && (b && (c && (d && (e && (f && (g && k)))))))
+    go false b c d e f g k u z = refl
+    go true false c d e f g k u z = refl
+    go true true false d e f g k u z = refl
+    go true true true false e f g k u z = refl
+    go true true true true false f g k u z = refl
+    go true true true true true false g k u z = refl
+    go true true true true true true false k u z = refl
+    go true true true true true true true k u z = z
 
 release-first : (w : ℕ) (r : BufferPool) (h : Handle) → refusal (releaseStep w r h .answer) ≡ firstCause (cause 7 (unknown w r h) ∷ [])
 unfolding releaseStep refusal firstCause
 release-first w r h = rw (unknown-is w r h) (go (names w r h))
   where
-    freed : Called
-    freed = called (marked r (released w (r .live) (h .slot)) (r .starts) (r .lengths) (r .serials) (r .given)) Done
-
-    go : (t : Bool) → refusal (pick t freed (refused r 7) .answer) ≡ pick (not t) 7 0
+    go : (t : Bool) → refusal (pick t (called (freed w r (h .slot)) Done) (refused r 7) .answer) ≡ pick (not t) 7 0
     go true = refl
     go false = refl
 
@@ -207,7 +225,7 @@ module _ (w : ℕ) (r : BufferPool) (m : Memories) where
   only-for-cause (Reserve len) = call-first [] _ _ (λ O e. reserve-first w r m len O e)
   only-for-cause (Commit n) = call-first [] _ _ (λ O e. commit-first r n)
   only-for-cause (Truncate n) = call-first [] _ _ (λ O e. truncate-first r n)
-  only-for-cause (Take destination) = call-first destination _ _ (λ O e. take-first w r destination)
+  only-for-cause (Take caller destination) = call-first destination _ _ (λ O e. take-first w r caller destination)
   only-for-cause (Release h) = call-first [] _ _ (λ O e. release-first w r h)
   only-for-cause (Look part) = view-number (viewOf w r m part .number) (viewOf w r m part .place) ∙ part-first part
 

@@ -13,20 +13,21 @@ use Rattle.buffer_pool.specs.declared.buffer_pool.PoolMode.{PoolMode}
 use Rattle.buffer_pool.specs.declared.buffer_pool.PoolMode.the-variants.{Back, Front, Alloc}
 use Rattle.buffer_pool.specs.Record.{startAt, after, placed, framed, marked}
 use Rattle.buffer_pool.specs.Steps.{longer}
-use Rattle.buffer_pool.specs.Sound.{Held, Slots, Ready, InBack, Side, InFront, InAlloc, InMode, Orderly}
+use Rattle.buffer_pool.specs.Sound.{Held, Slots, SerialsFit, Ready, InBack, Side, InFront, InAlloc, InMode, Orderly}
 use Rattle.buffer_pool.proofs.Order.{none-held}
 
 -- ---- What holds in every mode
 
 module _ {w : ℕ} {r : BufferPool} (R : Ready w r) where
   -- other entries of the slots, and another back
-  pub ready-marked : {live : ℕ} {starts lengths serials : List ℕ} {given : ℕ} {mode : PoolMode} {s n used offset : ℕ}
-      → Slots w live starts lengths (r .capacity) → w ≤ length serials → s < w → s + n ≤ w → (r .capacity ≡ 0 → n ≡ 0)
-      → ((p : ℕ) → Held w live p → p ≤ s + n) → Ready w (placed (marked r live starts lengths serials given) mode s n used offset)
+  pub ready-marked : {live : ℕ} {starts lengths serials callers given : List ℕ} {mode : PoolMode} {s n used offset : ℕ}
+      → Slots w live starts lengths (r .capacity) → SerialsFit w serials callers given → s < w → s + n ≤ w
+      → (r .capacity ≡ 0 → n ≡ 0) → ((p : ℕ) → Held w live p → p ≤ s + n)
+      → Ready w (placed (marked r live starts lengths serials callers given) mode s n used offset)
   ready-marked slots serials start within none low =
       record {
         slots = slots;
-        serials-w = serials;
+        serials-fit = serials;
         kept-in = R .kept-in;
         start-below = start;
         back-within = within;
@@ -37,7 +38,7 @@ module _ {w : ℕ} {r : BufferPool} (R : Ready w r) where
   -- another back
   pub ready-placed : {mode : PoolMode} {s n used offset : ℕ} → s < w → s + n ≤ w → (r .capacity ≡ 0 → n ≡ 0)
       → ((p : ℕ) → Held w (r .live) p → p ≤ s + n) → Ready w (placed r mode s n used offset)
-  ready-placed start within none low = ready-marked (R .slots) (R .serials-w) start within none low
+  ready-placed start within none low = ready-marked (R .slots) (R .serials-fit) start within none low
 
   -- another frame
   pub ready-framed : {mode : PoolMode} {offset len kept cursor reserved : ℕ} → kept ≤ max (r .overflow) cursor
@@ -45,7 +46,7 @@ module _ {w : ℕ} {r : BufferPool} (R : Ready w r) where
   ready-framed kept =
       record {
         slots = R .slots;
-        serials-w = R .serials-w;
+        serials-fit = R .serials-fit;
         kept-in = kept;
         start-below = R .start-below;
         back-within = R .back-within;
@@ -62,15 +63,15 @@ module _ {w : ℕ} {r : BufferPool} (R : Ready w r) where
 -- ---- The modes
 
 -- other entries of the slots, another count of used slots and another frame
-abbrev other : BufferPool → ℕ → List ℕ → List ℕ → List ℕ → ℕ → PoolMode → ℕ → ℕ → ℕ → ℕ → ℕ → BufferPool
-other r live starts lengths serials given mode used offset len kept reserved =
-    framed (placed (marked r live starts lengths serials given) mode (r .«back_start») (r .«back_len») used offset) mode offset
+abbrev other : BufferPool → ℕ → List ℕ → List ℕ → List ℕ → List ℕ → List ℕ → PoolMode → ℕ → ℕ → ℕ → ℕ → ℕ → BufferPool
+other r live starts lengths serials callers given mode used offset len kept reserved =
+    framed (placed (marked r live starts lengths serials callers given) mode (r .«back_start») (r .«back_len») used offset) mode offset
     len kept (r .cursor) reserved
 
-module _ {w live : ℕ} {starts lengths serials : List ℕ} {given : ℕ} {mode : PoolMode} {offset len kept reserved b : ℕ} where
+module _ {w live : ℕ} {starts lengths serials callers given : List ℕ} {mode : PoolMode} {offset len kept reserved b : ℕ} where
   pub back-kept : {r : BufferPool} {a : ℕ} → InBack w r a → ((p : ℕ) → Held w live p → after starts lengths p ≤ offset)
       → offset + len + b ≤ r .capacity → (0 < len + b → r .«back_start» + r .«back_len» < w)
-      → InBack w (other r live starts lengths serials given mode (r .used) offset len kept reserved) b
+      → InBack w (other r live starts lengths serials callers given mode (r .used) offset len kept reserved) b
   back-kept I past fits slot =
       record { used-is = I .used-is; no-cursor = I .no-cursor; past = past; fits = fits; slot = slot }
 
@@ -78,7 +79,7 @@ module _ {w live : ℕ} {starts lengths serials : List ℕ} {given : ℕ} {mode 
   pub front-longer : {r : BufferPool} {f : PoolFront} {a used l : ℕ} → InFront w r f a → l ≤ f .«back_start» → used ≡ l
       → ((p : ℕ) → Held w live p → Side p (longer f l) (startAt starts p) (after starts lengths p) offset)
       → offset + len + b ≤ f .«byte_capacity» → (0 < len + b → l < f .«back_start»)
-      → InFront w (other r live starts lengths serials given mode used offset len kept reserved) (longer f l) b
+      → InFront w (other r live starts lengths serials callers given mode used offset len kept reserved) (longer f l) b
   front-longer I within used side fits slot =
       record {
         full = I .full;
@@ -96,14 +97,14 @@ module _ {w live : ℕ} {starts lengths serials : List ℕ} {given : ℕ} {mode 
   pub front-kept : {r : BufferPool} {f : PoolFront} {a : ℕ} → InFront w r f a
       → ((p : ℕ) → Held w live p → Side p f (startAt starts p) (after starts lengths p) offset)
       → offset + len + b ≤ f .«byte_capacity» → (0 < len + b → f .len < f .«back_start»)
-      → InFront w (other r live starts lengths serials given mode (r .used) offset len kept reserved) f b
+      → InFront w (other r live starts lengths serials callers given mode (r .used) offset len kept reserved) f b
   front-kept I side fits slot = front-longer I (I .len-within) (I .used-is) side fits slot
 
 -- A, with other entries of the slots, another back and another cursor
-pub alloc-kept : {r : BufferPool} {live : ℕ} {starts lengths serials : List ℕ} {given : ℕ} {mode : PoolMode}
+pub alloc-kept : {r : BufferPool} {live : ℕ} {starts lengths serials callers given : List ℕ} {mode : PoolMode}
     {s n used kept cursor reserved a b : ℕ} → InAlloc r a → cursor + b ≤ kept
     → InAlloc
-    (framed (placed (marked r live starts lengths serials given) mode s n used (r .«raw_offset»)) mode (r .«raw_offset»)
+    (framed (placed (marked r live starts lengths serials callers given) mode s n used (r .«raw_offset»)) mode (r .«raw_offset»)
     (r .«raw_len») kept cursor reserved)
     b
 alloc-kept I fits = record { no-offset = I .no-offset; no-len = I .no-len; fits = fits }

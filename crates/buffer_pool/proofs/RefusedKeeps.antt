@@ -20,12 +20,12 @@ use Rattle.buffer_pool.specs.declared.buffer_pool.PoolMode.the-variants.
 use Rattle.buffer_pool.specs.declared.buffer_pool.Memory.the-variants.{Pool}
 use Rattle.buffer_pool.specs.declared.buffer_pool.Place.{Place}
 use Rattle.buffer_pool.specs.declared.buffer_pool.Called.{Called}
-use Rattle.buffer_pool.specs.Record.{byteLimit}
+use Rattle.buffer_pool.specs.Record.{byteLimit, callerCount}
 use Rattle.buffer_pool.specs.Moves.{Memories, perform}
 use Rattle.buffer_pool.specs.Placing.{place, tooLong}
 use Rattle.buffer_pool.specs.Soundness.{sound}
 use Rattle.buffer_pool.specs.Values.{refusal, values}
-use Rattle.buffer_pool.specs.Steps.{refused, at, frame, reserveOn, reserveStep, commitStep, truncateStep, mostSerials, takeOn, takeStep, takeMoves, names, releaseStep}
+use Rattle.buffer_pool.specs.Steps.{refused, at, frame, reserveOn, reserveStep, commitStep, truncateStep, mostSerials, givenTo, takeOn, takeStep, takeMoves, names, releaseStep}
 use Rattle.buffer_pool.specs.declared.buffer_pool.View.{View}
 use Rattle.buffer_pool.specs.Calls.{Outcome, outcome, misfit, guarded, guardedCall, newRefused, newDone, newOn, new, reserve, commit, truncate, copiedOut, take, release, hidden, frameView, reservationView, sliceView, written}
 use Rattle.buffer_pool.specs.Vocabulary.{Part, TheFrame, TheReservation, TheSlice, Call, Reserve, Commit, Truncate, Take, Release, Look, viewOf, viewAnswer, call, numberOf, destinationOf}
@@ -68,23 +68,26 @@ module _ (w : ℕ) (r : BufferPool) (m : Memories) where
   unfolding truncateStep refusal
   truncate-keeps n h = absurd (omega arith)
 
-  take-keeps : (destination : List ℕ) → let c = takeStep w r (length destination) in
+  take-keeps : (caller : ℕ) (destination : List ℕ) → let c = takeStep w r caller (length destination) in
       Keeps r m destination (copiedOut c r m destination (values (c .answer) .length))
   unfolding takeStep takeOn refusal copiedOut takeMoves perform copied part
-  take-keeps destination =
-      go (eqb (frame r .length) 0) (ltb (length destination) (frame r .length)) (leb mostSerials (r .given)) (r .mode)
+  take-keeps caller destination =
+      go (leb callerCount caller) (eqb (frame r .length) 0) (ltb (length destination) (frame r .length))
+      (leb mostSerials (givenTo r caller)) (r .mode)
     where
       taking : Called → Outcome
       taking c = copiedOut c r m destination (values (c .answer) .length)
 
-      go : (z long spent : Bool) (mode : PoolMode) → Keeps r m destination (taking (takeOn z long spent mode w r))
-      go true long spent mode h = absurd (omega arith)
-      go false long true Back h = refl
-      go false long false Back h = absurd (omega arith)
-      go false long true (Front f) h = refl
-      go false long false (Front f) h = absurd (omega arith)
-      go false true spent Alloc h = refl
-      go false false spent Alloc h = absurd (omega arith)
+      go : (none z long spent : Bool) (mode : PoolMode)
+          → Keeps r m destination (taking (takeOn none z long spent mode w caller r))
+      go true z long spent mode h = refl
+      go false true long spent mode h = absurd (omega arith)
+      go false false long true Back h = refl
+      go false false long false Back h = absurd (omega arith)
+      go false false long true (Front f) h = refl
+      go false false long false (Front f) h = absurd (omega arith)
+      go false false true spent Alloc h = refl
+      go false false false spent Alloc h = absurd (omega arith)
 
   release-keeps : (h : Handle) → Keeps r m [] (outcome (releaseStep w r h) m [])
   unfolding releaseStep refusal
@@ -97,7 +100,7 @@ module _ (w : ℕ) (r : BufferPool) (m : Memories) where
   refused-keeps (Reserve len) = guarded-keeps [] _ (reserve-keeps len)
   refused-keeps (Commit n) = guarded-keeps [] _ (commit-keeps n)
   refused-keeps (Truncate n) = guarded-keeps [] _ (truncate-keeps n)
-  refused-keeps (Take destination) = guarded-keeps destination _ (take-keeps destination)
+  refused-keeps (Take caller destination) = guarded-keeps destination _ (take-keeps caller destination)
   refused-keeps (Release h) = guarded-keeps [] _ (release-keeps h)
   refused-keeps (Look part) = go (viewOf w r m part .number)
     where

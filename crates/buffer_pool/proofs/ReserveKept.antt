@@ -166,9 +166,9 @@ module _ (w : ℕ) (r : BufferPool) (S : Orderly w r) where
 
   -- no live slot, no slot in the back, and these entries
   emptied : {starts lengths : List ℕ} → r .live ≡ 0 → w ≤ length starts → w ≤ length lengths
-      → Ready w (placed (marked r (r .live) starts lengths (r .serials) (r .given)) Back 0 0 0 0)
+      → Ready w (placed (marked r (r .live) starts lengths (r .serials) (r .callers) (r .given)) Back 0 0 0 0)
   emptied z starts lengths =
-      ready-marked R (no-slots z (R .slots .live-fits) starts lengths) (R .serials-w) (omega (arith, R .start-below)) (omega arith)
+      ready-marked R (no-slots z (R .slots .live-fits) starts lengths) (R .serials-fit) (omega (arith, R .start-below)) (omega arith)
       (λ e. refl) (λ p t. absurd (none-held w z t))
 
   emptied-kept : r .live ≡ 0 → Ready w (placed r Back 0 0 0 0)

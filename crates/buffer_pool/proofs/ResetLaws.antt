@@ -6,7 +6,6 @@ use Prim.Native.Nat.{ℕ, _+_, _-_, _≤_, _<_}
 use native.Mathlib.Nat.{zero-add}
 use native.Mathlib.Omega.{arith}
 use lib.Dec.{ltb, eqb}
-use lib.ListN.{replicate}
 use borrow.Author.Tests.{lt-ltb, le-ltb, eq-eqb, ne-eqb, eqb-true}
 use Rattle.laws.proofs.Tests.{no-true}
 use Rattle.buffer_pool.specs.declared.buffer_pool.BufferPool.{BufferPool}
@@ -17,7 +16,7 @@ use Rattle.buffer_pool.specs.declared.moves.Moves.{Moves}
 use Rattle.buffer_pool.specs.declared.moves.MoveKind.the-variants as kind
 use Rattle.buffer_pool.specs.declared.placing.Start.{Start}
 use Rattle.buffer_pool.specs.declared.placing.Decided.{Decided}
-use Rattle.buffer_pool.specs.Record.{placed, framed, marked}
+use Rattle.buffer_pool.specs.Record.{placed, framed, withoutEntries}
 use Rattle.buffer_pool.specs.Moves.{Move, In, Down, within}
 use Rattle.buffer_pool.specs.MoveList.{byteMove, moveOf, listed}
 use Rattle.buffer_pool.specs.Placing.{Decision, isAlloc, resets, resetOn, resetMoves, reset, placeOf, place}
@@ -64,13 +63,13 @@ module _ (p : BufferPool) (none : Moves) (n : listed none ≡ []) (z : none .cou
   reset-stays h q e = rw (le-ltb (p .cursor) (p .capacity) h) (record { pool-is = e; moves-is = n; few = omega arith })
 
   module _ (h : p .cursor < p .capacity) (q : BufferPool) (e : q ≡ placed p Back 0 0 0 0) (r : BufferPool) where
-    pub reset-empty : p .cursor ≡ 0 → r ≡ marked q (q .live) (replicate 8 0) (replicate 8 0) (q .serials) (q .given)
+    pub reset-empty : p .cursor ≡ 0 → r ≡ withoutEntries 8 q
         → Starts (record { pool = r; moves = none }) (resetOn true (ltb (p .cursor) (p .capacity)) (eqb (p .cursor) 0) Alloc 8 p)
         (resetMoves true (ltb (p .cursor) (p .capacity)) (eqb (p .cursor) 0) Alloc p)
     unfolding resetOn resetMoves
     reset-empty c f =
         rw (lt-ltb (p .cursor) (p .capacity) h, eq-eqb (p .cursor) 0 c)
-        (record { pool-is = f ∙ ap (λ (x : BufferPool). marked x (x .live) (replicate 8 0) (replicate 8 0) (x .serials) (x .given)) e; moves-is = n; few = omega arith })
+        (record { pool-is = f ∙ ap (withoutEntries 8) e; moves-is = n; few = omega arith })
 
     pub reset-brings : (p .cursor ≡ 0 → ⊥) → r ≡ framed q Back 0 (p .cursor) (p .kept - p .cursor) 0 (p .reserved)
         → (one two : Moves) → listed one ≡ listed none ++ (moveOf (byteMove kind.In (p .cursor) 0 0) ∷ []) → one .count ≡ none .count + 1

@@ -20,7 +20,7 @@ use Rattle.buffer_pool.specs.declared.buffer_pool.BufferPool.{BufferPool
 use Rattle.buffer_pool.specs.declared.buffer_pool.PoolFront.{PoolFront}
 use Rattle.buffer_pool.specs.declared.buffer_pool.PoolMode.{PoolMode}
 use Rattle.buffer_pool.specs.declared.buffer_pool.PoolMode.the-variants.{Back, Front, Alloc}
-use Rattle.buffer_pool.specs.Record.{placed, framed, marked}
+use Rattle.buffer_pool.specs.Record.{placed, framed, withoutEntries}
 use Rattle.buffer_pool.specs.Moves.{Memories, memories, Move, In, Down, within, perform}
 use Rattle.buffer_pool.specs.Placing.{Decision, clearable, tailFits, tailCleared, headFits, headCleared, toAlloc, finish, backFits, backOn, stays, allocOn, layer, backLayer, allocLayer, placeOf, mostChanges, resets, resetOn, resetMoves, reset, place, tooLong}
 use Rattle.buffer_pool.specs.Sound.{Ready, InBack, InFront, InAlloc, InMode, Orderly}
@@ -178,7 +178,7 @@ module _ (w : ℕ) (r : BufferPool) (m : Memories) (S : Sized r m) (own : ℕ) w
 
     reset-none : ltb (r .cursor) (r .capacity) ≡ true → r .cursor ≡ 0
         → Resets (rust-reset w (at-mode Alloc)) (reset-moves Alloc (at-mode Alloc))
-        (marked (placed r Back 0 0 0 0) (r .live) (replicate w 0) (replicate w 0) (r .serials) (r .given)) [] m
+        (withoutEntries w (placed r Back 0 0 0 0)) [] m
     unfolding rust-reset reset-on reset-moves
     reset-none e c =
         let z : ltb 0 (r .cursor) ≡ false = le-ltb 0 (r .cursor) (omega arith) in

@@ -10,9 +10,8 @@ use lib.Dec.{leb, ltb, eqb}
 use lib.ListN.{length, take, drop, length-drop, length-set, length-replicate}
 use lib.Seq.{length-take-le, take-take, take-at, take-set-lt}
 use Rattle.laws.specs.Tests.{pick}
-use Rattle.laws.specs.Live.{liveAt, released}
 use Rattle.laws.specs.Lists.{part, copied}
-use Rattle.laws.proofs.Tests.{no-true, both-true, leb-and}
+use Rattle.laws.proofs.Tests.{no-true}
 use Rattle.buffer_pool.specs.declared.slice.Handle.{Handle}
 use Rattle.buffer_pool.specs.declared.buffer_pool.BufferPool.{BufferPool}
 use Rattle.buffer_pool.specs.declared.buffer_pool.PoolMode.{PoolMode}
@@ -22,13 +21,13 @@ use Rattle.buffer_pool.specs.declared.buffer_pool.Memory.the-variants.{P
 use Rattle.buffer_pool.specs.declared.buffer_pool.Place.{Place}
 use Rattle.buffer_pool.specs.declared.buffer_pool.Answer.the-variants.{Done}
 use Rattle.buffer_pool.specs.declared.buffer_pool.Called.{Called}
-use Rattle.buffer_pool.specs.Record.{byteLimit, framed, marked}
+use Rattle.buffer_pool.specs.Record.{byteLimit, callerCount, framed}
 use Rattle.buffer_pool.specs.Moves.{Memories, memories, Move, Down, perform}
 use Rattle.buffer_pool.specs.Placing.{place, tooLong, isAlloc}
-use Rattle.buffer_pool.specs.Sound.{Held, InMode, InAlloc, Orderly}
+use Rattle.buffer_pool.specs.Sound.{InMode, InAlloc, Orderly}
 use Rattle.buffer_pool.specs.Soundness.{sound}
 use Rattle.buffer_pool.specs.Values.{refusal, values}
-use Rattle.buffer_pool.specs.Steps.{called, refused, frameOf, frame, reserveOn, reserveStep, resized, reframed, commitStep, truncateStep, handedOut, mostSerials, takeOn, takeStep, takeMoves, names, releaseStep}
+use Rattle.buffer_pool.specs.Steps.{called, refused, frameOf, frame, reserveOn, reserveStep, resized, reframed, commitStep, truncateStep, handedOut, mostSerials, givenTo, takeOn, takeStep, takeMoves, names, freed, releaseStep}
 use Rattle.buffer_pool.specs.Calls.{Outcome, outcome, misfit, guarded, guardedCall, newOn, new, reserve, commit, truncate, copiedOut, take as taken, release, bytesAt, writtenIn, written}
 use Rattle.buffer_pool.specs.Rust.{Run, done, RustPool, InnerMemory, Slice, Pooled, Heap, took, pool, back, system, front-len, in-bounds, raw-data, system-commit, system-frame, system-get-data-owned, system-truncate, commit-raw, get-data-owned-on, memory-get-data-owned, rust-reserve, rust-commit-on, rust-commit, rust-truncate-on, rust-truncate, rust-take-on, rust-take, rust-release, rust-frame-on, rust-frame, rust-new}
 use Rattle.buffer_pool.specs.RustMoves.{lessSelfCopies, rust-reserve-moves}
@@ -38,6 +37,7 @@ use Rattle.buffer_pool.proofs.Unchanged.{place-overflow}
 use Rattle.buffer_pool.proofs.Ranges.{orderly-claim}
 use Rattle.buffer_pool.proofs.HeapMoves.{Leads, leads-down, leads-heap, lent-bytes, lent-sizes}
 use Rattle.buffer_pool.proofs.RustLayers.{Sized}
+use Rattle.buffer_pool.proofs.Named.{names-use}
 use Rattle.buffer_pool.proofs.RustAgrees.{rust-agrees, moves-agree, bytes-agree, sizes-agree}
 
 -- what a reserve of ours leaves: is it refused with 4?
@@ -147,24 +147,17 @@ module _ {w : ℕ} {r : BufferPool} {m : Memories} {p : RustPool} (O : Orderly w
 
   -- ---- Release
 
-  named : (h : Handle) → names w r h ≡ true → Held w (r .live) (h .slot)
-  unfolding names
-  named h e =
-      let a = leb-and 1 (h .slot) e in
-      let b = leb-and (h .slot) w (a .1) in
-      record { one = a .0; most = b .0; here = both-true (liveAt w (r .live) (h .slot)) _ (b .1) .0 }
-
   pub release-agrees : (h : Handle) → refusal (releaseStep w r h .answer) ≡ 0
       → Leaves (rust-release w p (h .slot)) (λ q. q) (Stands (releaseStep w r h .pool) m)
   unfolding releaseStep refusal rust-release
   release-agrees h = go (names w r h) refl
     where
       step : Bool → Called
-      step t = pick t (called (marked r (released w (r .live) (h .slot)) (r .starts) (r .lengths) (r .serials) (r .given)) Done) (refused r 7)
+      step t = pick t (called (freed w r (h .slot)) Done) (refused r 7)
 
       go : (t : Bool) → names w r h ≡ t → refusal (step t .answer) ≡ 0 → Leaves (rust-release w p (h .slot)) (λ q. q) (Stands (step t .pool) m)
       go true e z =
-          let H = named h e in
+          let H = names-use w r h e .here in
           rw (T .mirrors .is)
           (leaves fits own (rw (le-leb 1 (h .slot) (H .one), le-leb (h .slot) w (H .most), H .here) refl) (T .mirrors .own-is))
       go false e z = absurd (omega (arith, z))
@@ -211,12 +204,12 @@ module _ {w : ℕ} {r : BufferPool} {m : Memories} {p : RustPool} (O : Orderly w
   slice = Pooled (suc (r .used)) (r .«raw_offset») (r .«raw_len»)
 
   owned-some : 0 < r .«raw_len»
-      → memory-get-data-owned w inner ≡ done (record { slice = slice; memory = innerOf (handedOut w r Back 0) (m .pool) })
+      → memory-get-data-owned w inner ≡ done (record { slice = slice; memory = innerOf (handedOut w 0 r Back 0) (m .pool) })
   unfolding memory-get-data-owned get-data-owned-on
   owned-some l = go (r .«raw_len») refl
     where
       go : (n : ℕ) → r .«raw_len» ≡ n
-          → get-data-owned-on n w inner ≡ done (record { slice = slice; memory = innerOf (handedOut w r Back 0) (m .pool) })
+          → get-data-owned-on n w inner ≡ done (record { slice = slice; memory = innerOf (handedOut w 0 r Back 0) (m .pool) })
       go zero e = absurd (omega arith)
       go (suc n) e = let c = orderly-claim w r O l in rw (lt-ltb (r .used) w (c .within), c .free) refl
 
@@ -243,13 +236,13 @@ module _ {w : ℕ} {r : BufferPool} {m : Memories} {p : RustPool} (O : Orderly w
       (λ f. refl)
 
   -- a frame in the pool: the next slot
-  take-pooled : (mode : PoolMode) → InMode w mode r (r .reserved) → isAlloc mode ≡ false → 0 < r .«raw_len»
-      → Leaves (rust-take w (at-mode mode)) (took slice) (Stands (takeOn false false false mode w r .pool) m)
+  take-pooled : (caller : ℕ) (mode : PoolMode) → InMode w mode r (r .reserved) → isAlloc mode ≡ false → 0 < r .«raw_len»
+      → Leaves (rust-take w (at-mode mode)) (took slice) (Stands (takeOn false false false false mode w caller r .pool) m)
   unfolding rust-take rust-take-on takeOn
-  take-pooled Back I a l =
+  take-pooled caller Back I a l =
       leaves fits own (rw (owned-some l, le-leb (r .«back_start») (suc (r .used)) (omega (arith, I .used-is))) refl) pooled
-  take-pooled (Front f) I a l = leaves fits own (rw (owned-some l) refl) pooled
-  take-pooled Alloc I a l = absurd (no-true (sym a))
+  take-pooled caller (Front f) I a l = leaves fits own (rw (owned-some l) refl) pooled
+  take-pooled caller Alloc I a l = absurd (no-true (sym a))
 
   -- a frame in the overflow: its bytes
   module _ (I : InAlloc r (r .reserved)) (l : 0 < r .cursor) where
@@ -301,28 +294,32 @@ module _ {w : ℕ} {r : BufferPool} {m : Memories} {p : RustPool} (O : Orderly w
   TakesAs mode destination c =
       AsRust (rust-take w (at-mode mode)) (took (sliceOf (values (c .answer)) (taking destination c .destination))) (taking destination c)
 
-  take-on : (destination : List ℕ) (mode : PoolMode) → InMode w mode r (r .reserved) → (z : Bool) → eqb (frameOf mode r .length) 0 ≡ z
-      → (long spent : Bool) → refusal (takeOn z long spent mode w r .answer) ≡ 0 → TakesAs mode destination (takeOn z long spent mode w r)
-  unfolding takeOn copiedOut refusal takeMoves perform
-  take-on destination mode I true e long spent u = take-none mode I (eqb-true (frameOf mode r .length) 0 e)
-  take-on destination Back I false e long true u = absurd (omega (arith, u))
-  take-on destination Back I false e long false u = take-pooled Back I refl (omega (arith, eqb-false (r .«raw_len») 0 e))
-  take-on destination (Front f) I false e long true u = absurd (omega (arith, u))
-  take-on destination (Front f) I false e long false u = take-pooled (Front f) I refl (omega (arith, eqb-false (r .«raw_len») 0 e))
-  take-on destination Alloc I false e true spent u = absurd (omega (arith, u))
-  take-on destination Alloc I false e false spent u =
-      let l : 0 < r .cursor = omega (arith, eqb-false (r .cursor) 0 e) in
-      subst (λ (bytes : List ℕ). Leaves (rust-take w (at-mode Alloc)) (took (Heap bytes)) (Stands (rest I l) (after I l)))
-      (copied-out I l destination) (take-heap I l)
+  module _ (caller : ℕ) (destination : List ℕ) where
+    take-on : (mode : PoolMode) → InMode w mode r (r .reserved) → (none z : Bool) → eqb (frameOf mode r .length) 0 ≡ z
+        → (long spent : Bool) → let c = takeOn none z long spent mode w caller r in
+        refusal (c .answer) ≡ 0 → TakesAs mode destination c
+    unfolding takeOn copiedOut refusal takeMoves perform
+    take-on mode I true z e long spent u = absurd (omega (arith, u))
+    take-on mode I false true e long spent u = take-none mode I (eqb-true (frameOf mode r .length) 0 e)
+    take-on Back I false false e long true u = absurd (omega (arith, u))
+    take-on Back I false false e long false u = take-pooled caller Back I refl (omega (arith, eqb-false (r .«raw_len») 0 e))
+    take-on (Front f) I false false e long true u = absurd (omega (arith, u))
+    take-on (Front f) I false false e long false u =
+        take-pooled caller (Front f) I refl (omega (arith, eqb-false (r .«raw_len») 0 e))
+    take-on Alloc I false false e true spent u = absurd (omega (arith, u))
+    take-on Alloc I false false e false spent u =
+        let l : 0 < r .cursor = omega (arith, eqb-false (r .cursor) 0 e) in
+        subst (λ (bytes : List ℕ). Leaves (rust-take w (at-mode Alloc)) (took (Heap bytes)) (Stands (rest I l) (after I l)))
+        (copied-out I l destination) (take-heap I l)
 
-  pub take-agrees : (destination : List ℕ) → refusal (takeStep w r (length destination) .answer) ≡ 0
-      → let c = takeStep w r (length destination) in
-      AsRust (rust-take w p) (took (sliceOf (values (c .answer)) (taking destination c .destination))) (taking destination c)
-  unfolding takeStep
-  take-agrees destination u =
-      rw (T .mirrors .is)
-      (take-on destination (r .mode) (O .in-mode) (eqb (frame r .length) 0) refl (ltb (length destination) (frame r .length))
-      (leb mostSerials (r .given)) u)
+    pub take-agrees : let c = takeStep w r caller (length destination) in
+        refusal (c .answer) ≡ 0
+        → AsRust (rust-take w p) (took (sliceOf (values (c .answer)) (taking destination c .destination))) (taking destination c)
+    unfolding takeStep
+    take-agrees u =
+        rw (T .mirrors .is)
+        (take-on (r .mode) (O .in-mode) (leb callerCount caller) (eqb (frame r .length) 0) refl
+        (ltb (length destination) (frame r .length)) (leb mostSerials (givenTo r caller)) u)
 
   -- ---- Reserve
 
@@ -396,14 +393,14 @@ module _ (w : ℕ) (r : BufferPool) (m : Memories) (p : RustPool) (T : Stands r 
       let W = worked w r m [] (outcome (truncateStep r n) m []) u in
       subst (λ (o : Outcome). AsRust (done (rust-truncate p n)) (λ q. q) o) (W .is) (truncate-agrees (W .orderly) T n)
 
-  pub take-as-rust : (destination : List ℕ) → let o = taken w r m destination in
+  pub take-as-rust : (caller : ℕ) (destination : List ℕ) → let o = taken w r m caller destination in
       Unrefused o → AsRust (rust-take w p) (took (sliceOf (values (o .call .answer)) (o .destination))) o
   unfolding taken copiedOut
-  take-as-rust destination u =
-      let c = takeStep w r (length destination) in
+  take-as-rust caller destination u =
+      let c = takeStep w r caller (length destination) in
       let W = worked w r m destination (copiedOut c r m destination (values (c .answer) .length)) u in
       subst (λ (o : Outcome). AsRust (rust-take w p) (took (sliceOf (values (o .call .answer)) (o .destination))) o) (W .is)
-      (take-agrees (W .orderly) T destination (W .unrefused))
+      (take-agrees (W .orderly) T caller destination (W .unrefused))
 
   pub release-as-rust : (h : Handle) → Unrefused (release w r m h) → AsRust (rust-release w p (h .slot)) (λ q. q) (release w r m h)
   unfolding release

@@ -30,21 +30,22 @@ pub data Step : Type 0 where
   Reserve : ℕ → Step
   Commit : ℕ → Step
   Truncate : ℕ → Step
-  Take : ℕ → Step
+  -- by this caller
+  Take : ℕ → ℕ → Step
   Release : Handle → Step
 
 abbrev pub step : ℕ → BufferPool → Step → Called
 step w r (Reserve len) = reserveStep w r len
 step w r (Commit n) = commitStep r n
 step w r (Truncate n) = truncateStep r n
-step w r (Take destination) = takeStep w r destination
+step w r (Take caller destination) = takeStep w r caller destination
 step w r (Release h) = releaseStep w r h
 
 pub step-orderly : (w : ℕ) (r : BufferPool) (s : Step) → Orderly w r → Orderly w (step w r s .pool)
 step-orderly w r (Reserve len) S = reserve-kept w r len S
 step-orderly w r (Commit n) S = commit-kept w r n S
 step-orderly w r (Truncate n) S = truncate-kept w r n S
-step-orderly w r (Take destination) S = take-kept w r destination S
+step-orderly w r (Take caller destination) S = take-kept w r caller destination S
 step-orderly w r (Release h) S = release-kept w r h S
 
 -- the lengths of the two memories stay
@@ -52,7 +53,7 @@ pub step-sizes : (w : ℕ) (r : BufferPool) (s : Step) → SameSizes r (step w r
 step-sizes w r (Reserve len) = reserve-sizes r w len
 step-sizes w r (Commit n) = commit-sizes r n
 step-sizes w r (Truncate n) = truncate-sizes r n
-step-sizes w r (Take destination) = take-sizes r w destination
+step-sizes w r (Take caller destination) = take-sizes r w caller destination
 step-sizes w r (Release h) = release-sizes r w h
 
 pub sound-kept : (w : ℕ) (r : BufferPool) (s : Step) → sound w r ≡ true → sound w (step w r s .pool) ≡ true

@@ -218,7 +218,7 @@ module _ (p : BufferPool) (l : Bool) (i : l ≡ limited p) where
           ∙ sym (rest ∙ rw (← i, not-false l c, s, not-false (n .sound) m))
 
 -- in code the types say that a record is shaped
-pub shaped-by-type : (p : BufferPool) → p .live < 256 → length (p .starts) ≡ 8 → length (p .lengths) ≡ 8 → length (p .serials) ≡ 8 → shaped 8 p ≡ true
+pub shaped-by-type : (p : BufferPool) → p .live < 256 → length (p .starts) ≡ 8 → length (p .lengths) ≡ 8 → length (p .serials) ≡ 8
+    → length (p .callers) ≡ 8 → length (p .given) ≡ 4 → shaped 8 p ≡ true
 unfolding shaped
-shaped-by-type p l s n e =
-    rw (lt-ltb (p .live) 256 l, s, n, e)
+shaped-by-type p l s n e c g = rw (lt-ltb (p .live) 256 l, s, n, e, c, g)

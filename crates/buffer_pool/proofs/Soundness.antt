@@ -17,7 +17,7 @@ use Rattle.buffer_pool.specs.declared.buffer_pool.BufferPool.{BufferPool
 use Rattle.buffer_pool.specs.declared.buffer_pool.PoolFront.{PoolFront}
 use Rattle.buffer_pool.specs.declared.buffer_pool.PoolMode.{PoolMode}
 use Rattle.buffer_pool.specs.declared.buffer_pool.PoolMode.the-variants.{Back, Front, Alloc}
-use Rattle.buffer_pool.specs.Record.{byteLimit}
+use Rattle.buffer_pool.specs.Record.{byteLimit, callerCount}
 use Rattle.buffer_pool.specs.Soundness.{shaped, limited, counted, rising, framedWithin, backNumbers, backSound, besides, frontNumbers, frontSound, allocSound, modeSound, orderly, sound}
 use Rattle.buffer_pool.specs.Sound.{Held, InBack, own, above, InFront, InAlloc, InMode, Orderly, Sound}
 use Rattle.buffer_pool.proofs.Order.{startOf, endOf, Beside}
@@ -269,6 +269,8 @@ module _ (w : ℕ) (r : BufferPool) where
       let live-fits = ltb-and (r .live) (2 ^ w) (a .0) in
       let starts-w = leb-and w (length (r .starts)) (live-fits .1) in
       let lengths-w = leb-and w (length (r .lengths)) (starts-w .1) in
+      let serials-w = leb-and w (length (r .serials)) (lengths-w .1) in
+      let callers-w = leb-and w (length (r .callers)) (serials-w .1) in
       let b = both-true (counted w r) _ (a .1) in
       let kept-within = leb-and (r .kept) (r .overflow) (b .0) in
       let start-below = ltb-and (r .«back_start») w (kept-within .1) in
@@ -287,7 +289,12 @@ module _ (w : ℕ) (r : BufferPool) where
                     order = λ p q l t u. I .order p q (t .one) l t u;
                     inside = λ p t. I .each p (t .one) t .inside;
                   };
-              serials-w = leb-true w (length (r .serials)) (lengths-w .1);
+              serials-fit =
+                  record {
+                    serials-w = serials-w .0;
+                    callers-w = callers-w .0;
+                    given-all = leb-true callerCount (length (r .given)) (callers-w .1);
+                  };
               kept-in = omega (arith, kept-within .0);
               start-below = start-below .0;
               back-within = back-within .0;
@@ -303,8 +310,10 @@ module _ (w : ℕ) (r : BufferPool) where
   orderly-make S =
       let R = S .ready in
       let L = R .slots in
+      let F = R .serials-fit in
       both
-      (both (lt-ltb _ _ (L .live-fits)) (both (le-leb _ _ (L .starts-w)) (both (le-leb _ _ (L .lengths-w)) (le-leb _ _ (R .serials-w)))))
+      (both (lt-ltb _ _ (L .live-fits)) (both (le-leb _ _ (L .starts-w)) (both (le-leb _ _ (L .lengths-w))
+      (both (le-leb _ _ (F .serials-w)) (both (le-leb _ _ (F .callers-w)) (le-leb _ _ (F .given-all)))))))
       (both
       (both (le-leb _ _ (S .kept-within)) (both (lt-ltb _ _ (R .start-below)) (both (le-leb _ _ (R .back-within)) (none-make (R .none)))))
       (both

@@ -1,6 +1,6 @@
 -- The record steps, from what the code of steps.rt knows where it returns. Assumes nothing.
 use mathlib.Core.Path.{_≡_, refl, sym, ap, _∙_, subst}
-use mathlib.Core.Bool.{Bool, true, false, not}
+use mathlib.Core.Bool.{Bool, true, false, not, _&&_}
 use Prim.Native.Nat.{ℕ, _+_, _-_, _≤_, _<_, min}
 use native.Mathlib.Numerals.{add-one}
 use native.Mathlib.Omega.{arith}
@@ -21,11 +21,11 @@ use Rattle.buffer_pool.specs.declared.buffer_pool.Memory.the-variants.{P
 use Rattle.buffer_pool.specs.declared.buffer_pool.Place.{Place}
 use Rattle.buffer_pool.specs.declared.buffer_pool.Answer.the-variants.{Done, Framed, Taken, Copied}
 use Rattle.buffer_pool.specs.declared.buffer_pool.Called.{Called}
-use Rattle.buffer_pool.specs.Record.{startAt, front, framed, marked}
+use Rattle.buffer_pool.specs.Record.{callerCount, startAt, front, framed, withLive}
 use Rattle.buffer_pool.specs.Placing.{isAlloc}
 use Rattle.buffer_pool.specs.Sound.{Orderly, InBack, InFront, InAlloc, InMode}
 use Rattle.buffer_pool.specs.Values.{refusal}
-use Rattle.buffer_pool.specs.Steps.{called, refused, at, frame, frameOf, resized, reframed, commitStep, truncateStep, handedOut, pooled, copiedOutOn, takeOn, takeStep, mostSerials, names, releaseStep}
+use Rattle.buffer_pool.specs.Steps.{called, refused, at, frame, frameOf, resized, reframed, commitStep, truncateStep, givenTo, handedOut, pooled, copiedOutOn, takeOn, takeStep, mostSerials, names, freed, releaseStep}
 
 -- ---- The frame, by the mode
 
@@ -80,70 +80,78 @@ commit-own p n = go (ltb (p .reserved) n)
     go true k = refl
     go false k = absurd (k refl)
 
-module _ (p : BufferPool) (destination : ℕ) where
+module _ (p : BufferPool) (caller destination : ℕ) where
   -- a take's number, by its tests
   abbrev takeNumber : Bool → Bool → Bool → PoolMode → ℕ
-  takeNumber empty long spent mode = refusal (takeOn empty long spent mode 8 p .answer)
+  takeNumber empty long spent mode = refusal (takeOn false empty long spent mode 8 caller p .answer)
 
-  module _ (f : Place) (e : f ≡ frameOf (p .mode) p) where
-    pub take-empty-zero : f .length ≡ 0 → 0 ≡ refusal (takeStep 8 p destination .answer)
+  pub take-twelve : 4 ≤ caller → 12 ≡ refusal (takeStep 8 p caller destination .answer)
+  unfolding takeStep takeOn refusal
+  take-twelve h = rw (le-leb callerCount caller h)
+
+  module _ (b : caller < 4) (f : Place) (e : f ≡ frameOf (p .mode) p) where
+    pub take-empty-zero : f .length ≡ 0 → 0 ≡ refusal (takeStep 8 p caller destination .answer)
     unfolding takeStep takeOn refusal
-    take-empty-zero z = rw (← e, eq-eqb (f .length) 0 z)
+    take-empty-zero z = rw (← e, lt-leb callerCount caller b, eq-eqb (f .length) 0 z)
 
     module _ (s : f .length ≡ 0 → ⊥) (a : Bool) (i : a ≡ isAlloc (p .mode)) where
-      some : (long spent : Bool) → ltb destination (f .length) ≡ long → leb mostSerials (p .given) ≡ spent
-          → refusal (takeStep 8 p destination .answer) ≡ takeNumber false long spent (p .mode)
+      some : (long spent : Bool) → ltb destination (f .length) ≡ long → leb mostSerials (givenTo p caller) ≡ spent
+          → refusal (takeStep 8 p caller destination .answer) ≡ takeNumber false long spent (p .mode)
       unfolding takeStep
-      some long spent l t = rw (← e, ne-eqb (f .length) 0 s, l, t)
+      some long spent l t = rw (← e, lt-leb callerCount caller b, ne-eqb (f .length) 0 s, l, t)
 
-      pub take-six : a ≡ true → destination < f .length → 6 ≡ refusal (takeStep 8 p destination .answer)
+      pub take-six : a ≡ true → destination < f .length → 6 ≡ refusal (takeStep 8 p caller destination .answer)
       unfolding takeOn refusal
       take-six t h = go (p .mode) (sym i ∙ t) ∙ sym (some true _ (lt-ltb destination (f .length) h) refl)
         where
-          go : (mode : PoolMode) → isAlloc mode ≡ true → 6 ≡ takeNumber false true (leb mostSerials (p .given)) mode
+          go : (mode : PoolMode) → isAlloc mode ≡ true → 6 ≡ takeNumber false true (leb mostSerials (givenTo p caller)) mode
           go Back q = absurd (no-true q)
           go (Front g) q = absurd (no-true q)
           go Alloc q = refl
 
-      pub take-copied-zero : a ≡ true → f .length ≤ destination → 0 ≡ refusal (takeStep 8 p destination .answer)
+      pub take-copied-zero : a ≡ true → f .length ≤ destination → 0 ≡ refusal (takeStep 8 p caller destination .answer)
       unfolding takeOn refusal
       take-copied-zero t h = go (p .mode) (sym i ∙ t) ∙ sym (some false _ (le-ltb destination (f .length) h) refl)
         where
-          go : (mode : PoolMode) → isAlloc mode ≡ true → 0 ≡ takeNumber false false (leb mostSerials (p .given)) mode
+          go : (mode : PoolMode) → isAlloc mode ≡ true → 0 ≡ takeNumber false false (leb mostSerials (givenTo p caller)) mode
           go Back q = absurd (no-true q)
           go (Front g) q = absurd (no-true q)
           go Alloc q = refl
 
-      pub take-eight : a ≡ false → 4294967295 ≤ p .given → 8 ≡ refusal (takeStep 8 p destination .answer)
+      pub take-eight : a ≡ false → (last : ℕ) → last ≡ givenTo p caller → 4294967295 ≤ last → 8 ≡ refusal (takeStep 8 p caller destination .answer)
       unfolding takeOn refusal
-      take-eight t h = go (p .mode) (sym i ∙ t) ∙ sym (some _ true refl (le-leb mostSerials (p .given) h))
+      take-eight t last g h = go (p .mode) (sym i ∙ t) ∙ sym (some _ true refl (ap (leb mostSerials) (sym g) ∙ le-leb mostSerials last h))
         where
           go : (mode : PoolMode) → isAlloc mode ≡ false → 8 ≡ takeNumber false (ltb destination (f .length)) true mode
           go Back q = refl
           go (Front g) q = refl
           go Alloc q = absurd (no-true (sym q))
 
-      pub take-pooled-zero : a ≡ false → p .given < 4294967295 → 0 ≡ refusal (takeStep 8 p destination .answer)
+      pub take-pooled-zero : a ≡ false → (last : ℕ) → last ≡ givenTo p caller → last < 4294967295 → 0 ≡ refusal (takeStep 8 p caller destination .answer)
       unfolding takeOn refusal
-      take-pooled-zero t h = go (p .mode) (sym i ∙ t) ∙ sym (some _ false refl (lt-leb mostSerials (p .given) h))
+      take-pooled-zero t last g h = go (p .mode) (sym i ∙ t) ∙ sym (some _ false refl (ap (leb mostSerials) (sym g) ∙ lt-leb mostSerials last h))
         where
           go : (mode : PoolMode) → isAlloc mode ≡ false → 0 ≡ takeNumber false (ltb destination (f .length)) false mode
           go Back q = refl
           go (Front g) q = refl
           go Alloc q = absurd (no-true (sym q))
 
-  pub take-own : (refusal (takeStep 8 p destination .answer) ≡ 0 → ⊥) → takeStep 8 p destination ≡ refused p (refusal (takeStep 8 p destination .answer))
+  pub take-own : (refusal (takeStep 8 p caller destination .answer) ≡ 0 → ⊥) → takeStep 8 p caller destination ≡ refused p (refusal (takeStep 8 p caller destination .answer))
   unfolding takeStep takeOn refusal
-  take-own = go (eqb (frameOf (p .mode) p .length) 0) (ltb destination (frameOf (p .mode) p .length)) (leb mostSerials (p .given)) (p .mode)
+  take-own =
+      go (leb callerCount caller) (eqb (frameOf (p .mode) p .length) 0) (ltb destination (frameOf (p .mode) p .length))
+      (leb mostSerials (givenTo p caller)) (p .mode)
     where
-      go : (empty long spent : Bool) (mode : PoolMode) → (takeNumber empty long spent mode ≡ 0 → ⊥) → takeOn empty long spent mode 8 p ≡ refused p (takeNumber empty long spent mode)
-      go true long spent mode k = absurd (k refl)
-      go false long true Back k = refl
-      go false long false Back k = absurd (k refl)
-      go false long true (Front f) k = refl
-      go false long false (Front f) k = absurd (k refl)
-      go false true spent Alloc k = refl
-      go false false spent Alloc k = absurd (k refl)
+      go : (none empty long spent : Bool) (mode : PoolMode) → let c = takeOn none empty long spent mode 8 caller p in
+          (refusal (c .answer) ≡ 0 → ⊥) → c ≡ refused p (refusal (c .answer))
+      go true empty long spent mode k = refl
+      go false true long spent mode k = absurd (k refl)
+      go false false long true Back k = refl
+      go false false long false Back k = absurd (k refl)
+      go false false long true (Front f) k = refl
+      go false false long false (Front f) k = absurd (k refl)
+      go false false true spent Alloc k = refl
+      go false false false spent Alloc k = absurd (k refl)
 
 module _ (p : BufferPool) (h : Handle) where
   pub release-seven : (b : Bool) → b ≡ names 8 p h → not b ≡ true → 7 ≡ refusal (releaseStep 8 p h .answer)
@@ -155,7 +163,7 @@ module _ (p : BufferPool) (h : Handle) where
   release-zero b e t = rw (← e, not-false b t)
 
   abbrev done : Called
-  done = called (marked p (released 8 (p .live) (h .slot)) (p .starts) (p .lengths) (p .serials) (p .given)) Done
+  done = called (freed 8 p (h .slot)) Done
 
   pub release-own : (refusal (releaseStep 8 p h .answer) ≡ 0 → ⊥) → releaseStep 8 p h ≡ refused p (refusal (releaseStep 8 p h .answer))
   unfolding releaseStep refusal
@@ -201,15 +209,17 @@ module _ (p : BufferPool) (n : ℕ) (c : Called) (f : Place) (i : f ≡ frameOf 
 
 -- ---- Take
 
-pub handed-out : (p : BufferPool) (mode : PoolMode) (n live : ℕ) → live ≡ claimed 8 (p .live) (p .used + 1)
+pub handed-out : (p : BufferPool) (caller : ℕ) (mode : PoolMode) (n live : ℕ) → live ≡ claimed 8 (p .live) (p .used + 1)
+    → (last : ℕ) → last ≡ givenTo p caller
     → record {
       capacity = p .capacity;
       overflow = p .overflow;
       live = live;
       starts = set (p .starts) (p .used) (p .«raw_offset»);
       lengths = set (p .lengths) (p .used) (p .«raw_len»);
-      serials = set (p .serials) (p .used) (p .given + 1);
-      given = p .given + 1;
+      serials = set (p .serials) (p .used) (last + 1);
+      given = set (p .given) caller (last + 1);
+      callers = set (p .callers) (p .used) caller;
       «back_start» = p .«back_start»;
       «back_len» = n;
       used = p .used + 1;
@@ -219,17 +229,28 @@ pub handed-out : (p : BufferPool) (mode : PoolMode) (n live : ℕ) → live ≡ 
       kept = p .kept;
       cursor = p .cursor;
       reserved = 0;
-    } ≡ handedOut 8 p mode n
-handed-out p mode n live e = rw (e, add-one (p .used), add-one (p .given))
+    } ≡ handedOut 8 caller p mode n
+handed-out p caller mode n live e last f = rw (e, f, add-one (p .used), add-one (givenTo p caller))
 
-module _ (p : BufferPool) (mode : PoolMode) (n : ℕ) (c : Called) where
-  pub serials-spent : 4294967295 ≤ p .given → c ≡ refused p 8 → c ≡ pooled (leb 4294967295 (p .given)) 8 p mode n
-  serials-spent h e = e ∙ rw (le-leb 4294967295 (p .given) h)
+module _ (p : BufferPool) (caller : ℕ) (mode : PoolMode) (n last : ℕ) (f : last ≡ givenTo p caller) where
+  pub serials-spent : 4294967295 ≤ last → (c : Called) → c ≡ refused p 8
+      → c ≡ pooled (leb 4294967295 (givenTo p caller)) 8 caller p mode n
+  serials-spent h c e = e ∙ rw (← f, le-leb 4294967295 last h)
 
-pub taken-pooled : (p : BufferPool) (mode : PoolMode) (n : ℕ) → p .given < 4294967295 → (q : BufferPool) → q ≡ handedOut 8 p mode n
-    → record { pool = q; answer = Taken (record { slot = p .used + 1; start = p .«raw_offset»; length = p .«raw_len»; serial = p .given + 1 }) }
-    ≡ pooled (leb 4294967295 (p .given)) 8 p mode n
-taken-pooled p mode n h q e = rw (lt-leb 4294967295 (p .given) h, e, add-one (p .used), add-one (p .given))
+  pub taken-pooled : last < 4294967295 → (q : BufferPool) → q ≡ handedOut 8 caller p mode n
+      → record {
+        pool = q;
+        answer =
+            Taken
+            (record {
+              slot = p .used + 1;
+              start = p .«raw_offset»;
+              length = p .«raw_len»;
+              serial = last + 1;
+              caller = caller;
+            });
+      } ≡ pooled (leb 4294967295 (givenTo p caller)) 8 caller p mode n
+  taken-pooled h q e = rw (lt-leb 4294967295 (givenTo p caller) (rw (← f) h), f, e, add-one (p .used), add-one (givenTo p caller))
 
 module _ (p : BufferPool) (destination : ℕ) where
   pub destination-short : destination < p .cursor → (c : Called) → c ≡ refused p 6 → c ≡ copiedOutOn (ltb destination (p .cursor)) p
@@ -275,45 +296,55 @@ module _ (p : BufferPool) (O : Orderly 8 p) where
 pub slot-fits : (used : ℕ) → used < 8 → Fits w64 (used + 1)
 slot-fits used h = record { fits = omega arith }
 
-empty-as : (p : BufferPool) (long spent : Bool) (mode : PoolMode) → takeOn true long spent mode 8 p ≡ called (resized mode p (frameOf mode p .length)) (Copied 0)
-unfolding takeOn
-empty-as p long spent Back = refl
-empty-as p long spent (Front f) = refl
-empty-as p long spent Alloc = refl
+-- a take by one of the callers, from what it has tested; one by none
+module _ (p : BufferPool) (caller destination : ℕ) where
+  pub taken-by-none : 4 ≤ caller → (c : Called) → c ≡ refused p 12 → c ≡ takeStep 8 p caller destination
+  unfolding takeStep takeOn
+  taken-by-none h c e = e ∙ rw (le-leb callerCount caller h)
 
-module _ (p : BufferPool) (destination : ℕ) (f : Place) (i : f ≡ frameOf (p .mode) p) where
-  pub taken-empty : f .length ≡ 0 → (q : BufferPool) → q ≡ resized (p .mode) p (f .length) → record { pool = q; answer = Copied 0 } ≡ takeStep 8 p destination
-  unfolding takeStep
-  taken-empty z q e =
-      let l : f .length ≡ frameOf (p .mode) p .length = ap (λ (x : Place). x .length) i in
-      ap (λ (x : BufferPool). called x (Copied 0)) (e ∙ ap (resized (p .mode) p) l)
-      ∙ sym (empty-as p (ltb destination (frameOf (p .mode) p .length)) (leb 4294967295 (p .given)) (p .mode))
-      ∙ ap (λ (b : Bool). takeOn b (ltb destination (frameOf (p .mode) p .length)) (leb 4294967295 (p .given)) (p .mode) 8 p) (sym (eq-eqb (frameOf (p .mode) p .length) 0 (sym l ∙ z)))
+  module _ (b : caller < 4) (f : Place) (i : f ≡ frameOf (p .mode) p) where
+    abbrev taking : Bool → PoolMode → Called
+    taking empty mode =
+        takeOn false empty (ltb destination (frameOf mode p .length)) (leb mostSerials (givenTo p caller)) mode 8 caller p
 
-  module _ (n : f .length ≡ 0 → ⊥) (c : Called) where
-    some-as : (mode : PoolMode) → p .mode ≡ mode
-        → takeOn false (ltb destination (frameOf mode p .length)) (leb 4294967295 (p .given)) mode 8 p ≡ takeStep 8 p destination
+    -- the step, by whether the frame is empty
+    taken-on : (empty : Bool) → eqb (f .length) 0 ≡ empty → (mode : PoolMode) → p .mode ≡ mode
+        → taking empty mode ≡ takeStep 8 p caller destination
     unfolding takeStep
-    some-as mode m =
-        ap (λ (x : PoolMode). takeOn false (ltb destination (frameOf x p .length)) (leb 4294967295 (p .given)) x 8 p) (sym m)
-        ∙ ap (λ (b : Bool). takeOn b (ltb destination (frameOf (p .mode) p .length)) (leb 4294967295 (p .given)) (p .mode) 8 p)
-        (sym (ne-eqb (frameOf (p .mode) p .length) 0 (λ z. n (ap (λ (x : Place). x .length) i ∙ z))))
+    taken-on empty e mode m = rw (← m, ← e, lt-leb callerCount caller b, i)
 
-    pub taken-back : p .mode ≡ Back → c ≡ pooled (leb 4294967295 (p .given)) 8 p Back (p .used + 1 - p .«back_start») → c ≡ takeStep 8 p destination
+    pub taken-empty : f .length ≡ 0 → (q : BufferPool) → q ≡ resized (p .mode) p (f .length)
+        → record { pool = q; answer = Copied 0 } ≡ takeStep 8 p caller destination
     unfolding takeOn
-    taken-back m e =
-        e ∙ ap (λ (k : ℕ). pooled (leb 4294967295 (p .given)) 8 p Back (k - p .«back_start»)) (add-one (p .used)) ∙ some-as Back m
+    taken-empty z q e =
+        ap (λ (x : BufferPool). called x (Copied 0)) (e ∙ ap (λ (x : Place). resized (p .mode) p (x .length)) i)
+        ∙ taken-on true (eq-eqb (f .length) 0 z) (p .mode) refl
 
-    pub taken-front : (g : PoolFront) → p .mode ≡ Front g
-        → c ≡ pooled (leb 4294967295 (p .given)) 8 p (front (g .«back_start») (g .«byte_capacity») (p .used + 1)) (p .«back_len») → c ≡ takeStep 8 p destination
-    unfolding takeOn
-    taken-front g m e =
-        e ∙ ap (λ (k : ℕ). pooled (leb 4294967295 (p .given)) 8 p (front (g .«back_start») (g .«byte_capacity») k) (p .«back_len»)) (add-one (p .used))
-        ∙ some-as (Front g) m
+    module _ (n : f .length ≡ 0 → ⊥) (c : Called) where
+      some-as : (mode : PoolMode) → p .mode ≡ mode → taking false mode ≡ takeStep 8 p caller destination
+      some-as = taken-on false (ne-eqb (f .length) 0 n)
 
-    pub taken-alloc : p .mode ≡ Alloc → c ≡ copiedOutOn (ltb destination (p .cursor)) p → c ≡ takeStep 8 p destination
-    unfolding takeOn
-    taken-alloc m e = e ∙ some-as Alloc m
+      pub taken-back : p .mode ≡ Back
+          → c ≡ pooled (leb 4294967295 (givenTo p caller)) 8 caller p Back (p .used + 1 - p .«back_start»)
+          → c ≡ takeStep 8 p caller destination
+      unfolding takeOn
+      taken-back m e =
+          e ∙ ap (λ (k : ℕ). pooled (leb 4294967295 (givenTo p caller)) 8 caller p Back (k - p .«back_start»)) (add-one (p .used))
+          ∙ some-as Back m
+
+      pub taken-front : (g : PoolFront) → p .mode ≡ Front g
+          → c ≡ pooled (leb 4294967295 (givenTo p caller)) 8 caller p (front (g .«back_start») (g .«byte_capacity») (p .used + 1)) (p .«back_len»)
+          → c ≡ takeStep 8 p caller destination
+      unfolding takeOn
+      taken-front g m e =
+          e
+          ∙ ap (λ (k : ℕ). pooled (leb 4294967295 (givenTo p caller)) 8 caller p (front (g .«back_start») (g .«byte_capacity») k) (p .«back_len»))
+          (add-one (p .used))
+          ∙ some-as (Front g) m
+
+      pub taken-alloc : p .mode ≡ Alloc → c ≡ copiedOutOn (ltb destination (p .cursor)) p → c ≡ takeStep 8 p caller destination
+      unfolding takeOn
+      taken-alloc m e = e ∙ some-as Alloc m
 
 -- ---- Release
 
@@ -343,10 +374,24 @@ module _ (p : BufferPool) (h : Handle) where
           length-differs d =
               rw (le-leb 1 (h .slot) l, le-leb (h .slot) 8 k, ← e, not-false v t, eq-eqb (h .start) (startAt (p .starts) (h .slot)) a, ne-eqb (h .length) (startAt (p .lengths) (h .slot)) d)
 
-          pub serial-decides : h .length ≡ getD (p .lengths) (h .slot - 1) 0 → eqb (h .serial) (getD (p .serials) (h .slot - 1) 0) ≡ names 8 p h
-          unfolding names
-          serial-decides b =
-              rw (le-leb 1 (h .slot) l, le-leb (h .slot) 8 k, ← e, not-false v t, eq-eqb (h .start) (startAt (p .starts) (h .slot)) a, eq-eqb (h .length) (startAt (p .lengths) (h .slot)) b)
+          module _ (b : h .length ≡ getD (p .lengths) (h .slot - 1) 0) where
+            pub serial-differs : (h .serial ≡ getD (p .serials) (h .slot - 1) 0 → ⊥) → false ≡ names 8 p h
+            unfolding names
+            serial-differs d =
+                rw (le-leb 1 (h .slot) l, le-leb (h .slot) 8 k, ← e, not-false v t, eq-eqb (h .start) (startAt (p .starts) (h .slot)) a, eq-eqb (h .length) (startAt (p .lengths) (h .slot)) b, ne-eqb (h .serial) (startAt (p .serials) (h .slot)) d)
+
+            module _ (s : h .serial ≡ getD (p .serials) (h .slot - 1) 0) where
+              -- all but the caller is the slot's
+              but-caller : names 8 p h ≡ (eqb (h .caller) (startAt (p .callers) (h .slot)) && ltb (h .caller) callerCount)
+              unfolding names
+              but-caller =
+                  rw (le-leb 1 (h .slot) l, le-leb (h .slot) 8 k, ← e, not-false v t, eq-eqb (h .start) (startAt (p .starts) (h .slot)) a, eq-eqb (h .length) (startAt (p .lengths) (h .slot)) b, eq-eqb (h .serial) (startAt (p .serials) (h .slot)) s)
+
+              pub caller-differs : (h .caller ≡ getD (p .callers) (h .slot - 1) 0 → ⊥) → false ≡ names 8 p h
+              caller-differs d = sym (but-caller ∙ rw (ne-eqb (h .caller) (startAt (p .callers) (h .slot)) d))
+
+              pub caller-decides : h .caller ≡ getD (p .callers) (h .slot - 1) 0 → ltb (h .caller) 4 ≡ names 8 p h
+              caller-decides d = sym (but-caller ∙ rw (eq-eqb (h .caller) (startAt (p .callers) (h .slot)) d))
 
 module _ (p : BufferPool) (h : Handle) (b : Bool) (e : b ≡ names 8 p h) where
   pub release-refused : not b ≡ true → (c : Called) → c ≡ refused p 7 → c ≡ releaseStep 8 p h
@@ -365,6 +410,6 @@ module _ (p : BufferPool) (h : Handle) (b : Bool) (e : b ≡ names 8 p h) where
   named-most t = leb-true (h .slot) 8 (both-true (leb (h .slot) 8) _ (both-true (leb 1 (h .slot)) _ (named t) .1) .0)
 
   pub release-done : not b ≡ false → (live : ℕ) → live ≡ released 8 (p .live) (h .slot)
-      → record { pool = marked p live (p .starts) (p .lengths) (p .serials) (p .given); answer = Done } ≡ releaseStep 8 p h
+      → record { pool = withLive p live; answer = Done } ≡ releaseStep 8 p h
   unfolding releaseStep
   release-done t live f = rw (← e, not-false b t, f)

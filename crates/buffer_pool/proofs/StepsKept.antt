@@ -23,9 +23,9 @@ use Rattle.buffer_pool.specs.declared.buffer_pool.PoolFront.{PoolFront}
 use Rattle.buffer_pool.specs.declared.buffer_pool.PoolMode.{PoolMode}
 use Rattle.buffer_pool.specs.declared.buffer_pool.PoolMode.the-variants.{Back, Front, Alloc}
 use Rattle.buffer_pool.specs.declared.buffer_pool.Called.{Called}
-use Rattle.buffer_pool.specs.Record.{startAt, after, newRecord, marked}
-use Rattle.buffer_pool.specs.Sound.{Held, Slots, Ready, InBack, Side, own, above, InFront, InMode, Orderly}
-use Rattle.buffer_pool.specs.Steps.{frame, frameOf, resized, commitStep, truncateStep, mostSerials, handedOut, longer, takeOn, takeStep, names, releaseStep}
+use Rattle.buffer_pool.specs.Record.{callerCount, startAt, after, newRecord, withLive}
+use Rattle.buffer_pool.specs.Sound.{Held, Slots, SerialsFit, Ready, InBack, Side, own, above, InFront, InMode, Orderly}
+use Rattle.buffer_pool.specs.Steps.{frame, frameOf, resized, commitStep, truncateStep, mostSerials, givenTo, handedOut, longer, takeOn, takeStep, names, freed, releaseStep}
 use Rattle.buffer_pool.proofs.Order.{startOf, endOf, Beside, none-held}
 use Rattle.buffer_pool.proofs.Parts.{ready-marked, ready-framed, framed-orderly, back-kept, front-kept, front-longer, alloc-kept, zeros-long, no-slots, no-slots-back}
 
@@ -37,7 +37,7 @@ new-orderly w capacity overflow h =
       ready =
           record {
             slots = no-slots refl (pow-pos w) (zeros-long w) (zeros-long w);
-            serials-w = zeros-long w;
+            serials-fit = record { serials-w = zeros-long w; callers-w = zeros-long w; given-all = zeros-long callerCount };
             kept-in = omega arith;
             start-below = h;
             back-within = omega arith;
@@ -137,28 +137,38 @@ module _ {w live : ℕ} {starts lengths : List ℕ} {capacity : ℕ} (S : Slots 
 
 -- ---- Take
 
-module _ (w : ℕ) (r : BufferPool) (S : Orderly w r) (l : 0 < r .«raw_len») where
+module _ (w caller : ℕ) (r : BufferPool) (S : Orderly w r) (l : 0 < r .«raw_len») where
   abbrev R : Ready w r
   R = S .ready
 
   abbrev frameEnd : ℕ
   frameEnd = r .«raw_offset» + r .«raw_len»
 
+  handed-serials : SerialsFit w (handedOut w caller r Back 0 .serials) (handedOut w caller r Back 0 .callers)
+      (handedOut w caller r Back 0 .given)
+  handed-serials =
+      let F = R .serials-fit in
+      record {
+        serials-w = rw length-set (F .serials-w);
+        callers-w = rw length-set (F .callers-w);
+        given-all = rw length-set (F .given-all);
+      }
+
   -- with n slots in the back, the claimed one among the slots up to there
   handed-ready : {mode : PoolMode} {n : ℕ} → frameEnd ≤ r .capacity
       → ((p : ℕ) → Held w (r .live) p → p ≤ suc (r .used) → endOf r p ≤ r .«raw_offset»)
       → ((p : ℕ) → Held w (r .live) p → suc (r .used) < p → frameEnd ≤ startOf r p)
-      → r .«back_start» + n ≤ w → suc (r .used) ≤ r .«back_start» + n → r .«back_len» ≤ n → Ready w (handedOut w r mode n)
+      → r .«back_start» + n ≤ w → suc (r .used) ≤ r .«back_start» + n → r .«back_len» ≤ n → Ready w (handedOut w caller r mode n)
   handed-ready {mode} {n} c below over within slot more =
       let h : r .used < w = omega arith in
       let slots = claimed-slots (R .slots) (r .used) (r .«raw_offset») (r .«raw_len») h l c below over in
       let all = claimed-all (R .slots) (r .used) (r .«raw_offset») (r .«raw_len») h in
       ready-framed
-      (ready-marked R {mode = mode} {offset = frameEnd} slots (rw length-set (R .serials-w)) (R .start-below) within
+      (ready-marked R {mode = mode} {offset = frameEnd} slots handed-serials (R .start-below) within
       (λ e. absurd (omega arith)) (all (λ p a e. p ≤ r .«back_start» + n) slot (λ p t. omega (arith, R .low p t))))
       (R .kept-in)
 
-  take-back : InBack w r (r .reserved) → Orderly w (handedOut w r Back (suc (r .used) - r .«back_start»))
+  take-back : InBack w r (r .reserved) → Orderly w (handedOut w caller r Back (suc (r .used) - r .«back_start»))
   take-back I =
       let room : r .used < w = omega (arith, I .used-is, I .slot (omega arith)) in
       let all = claimed-all (R .slots) (r .used) (r .«raw_offset») (r .«raw_len») room in
@@ -193,7 +203,7 @@ module _ (w : ℕ) (r : BufferPool) (S : Orderly w r) (l : 0 < r .«raw_len») w
     longer-side p (own a b) = own (omega (arith, I .used-is)) (omega arith)
     longer-side p (above a b) = above a b
 
-    take-front : Orderly w (handedOut w r (Front (longer f (suc (r .used)))) (r .«back_len»))
+    take-front : Orderly w (handedOut w caller r (Front (longer f (suc (r .used)))) (r .«back_len»))
     take-front =
         let room : r .used < w = omega (arith, front-room, I .front-within, R .start-below) in
         let all = claimed-all (R .slots) (r .used) (r .«raw_offset») (r .«raw_len») room in
@@ -210,33 +220,33 @@ module _ (w : ℕ) (r : BufferPool) (S : Orderly w r) (l : 0 < r .«raw_len») w
               (omega (arith, I .fits)) (λ x. absurd (omega arith));
         }
 
-pub take-kept : (w : ℕ) (r : BufferPool) (destination : ℕ) → Orderly w r → Orderly w (takeStep w r destination .pool)
+pub take-kept : (w : ℕ) (r : BufferPool) (caller destination : ℕ) → Orderly w r
+    → Orderly w (takeStep w r caller destination .pool)
 unfolding takeStep takeOn
-take-kept w r destination S =
-    go (r .mode) (S .in-mode) (eqb (frame r .length) 0) refl (ltb destination (frame r .length)) (leb mostSerials (r .given))
+take-kept w r caller destination S =
+    go (leb callerCount caller) (r .mode) (S .in-mode) (eqb (frame r .length) 0) refl (ltb destination (frame r .length))
+    (leb mostSerials (givenTo r caller))
   where
-    go : (mode : PoolMode) → InMode w mode r (r .reserved) → (z : Bool) → eqb (frameOf mode r .length) 0 ≡ z → (long spent : Bool)
-        → Orderly w (takeOn z long spent mode w r .pool)
-    go mode I true e long spent = resized-kept w r mode (frameOf mode r .length) S I (omega arith)
-    go Back I false e long true = S
-    go Back I false e long false = take-back w r S (omega (arith, eqb-false (r .«raw_len») 0 e)) I
-    go (Front f) I false e long true = S
-    go (Front f) I false e long false = take-front w r S (omega (arith, eqb-false (r .«raw_len») 0 e)) f I
-    go Alloc I false e true spent = S
-    go Alloc I false e false spent = framed-orderly (S .ready) (omega (arith, S .kept-within)) (alloc-kept I (omega arith))
+    go : (none : Bool) (mode : PoolMode) → InMode w mode r (r .reserved) → (z : Bool) → eqb (frameOf mode r .length) 0 ≡ z
+        → (long spent : Bool) → Orderly w (takeOn none z long spent mode w caller r .pool)
+    go true mode I z e long spent = S
+    go false mode I true e long spent = resized-kept w r mode (frameOf mode r .length) S I (omega arith)
+    go false Back I false e long true = S
+    go false Back I false e long false = take-back w caller r S (omega (arith, eqb-false (r .«raw_len») 0 e)) I
+    go false (Front f) I false e long true = S
+    go false (Front f) I false e long false = take-front w caller r S (omega (arith, eqb-false (r .«raw_len») 0 e)) f I
+    go false Alloc I false e true spent = S
+    go false Alloc I false e false spent = framed-orderly (S .ready) (omega (arith, S .kept-within)) (alloc-kept I (omega arith))
 
 -- ---- Release: fewer live slots
 
-abbrev fewer : BufferPool → ℕ → BufferPool
-fewer r live = marked r live (r .starts) (r .lengths) (r .serials) (r .given)
-
 module _ (w : ℕ) (r : BufferPool) (live : ℕ) (sub : (p : ℕ) → Held w live p → Held w (r .live) p) where
-  fewer-in : (mode : PoolMode) → InMode w mode r (r .reserved) → InMode w mode (fewer r live) (r .reserved)
+  fewer-in : (mode : PoolMode) → InMode w mode r (r .reserved) → InMode w mode (withLive r live) (r .reserved)
   fewer-in Back I = back-kept I (λ p t. I .past p (sub p t)) (I .fits) (I .slot)
   fewer-in (Front f) I = front-kept I (λ p t. I .side p (sub p t)) (I .fits) (I .slot)
   fewer-in Alloc I = alloc-kept I (I .fits)
 
-  pub fewer-orderly : live < 2 ^ w → Orderly w r → Orderly w (fewer r live)
+  pub fewer-orderly : live < 2 ^ w → Orderly w r → Orderly w (withLive r live)
   fewer-orderly h S =
       let R = S .ready in
       record {
@@ -250,7 +260,7 @@ module _ (w : ℕ) (r : BufferPool) (live : ℕ) (sub : (p : ℕ) → Held w liv
               order = λ p q d t u. R .slots .order p q d (sub p t) (sub q u);
               inside = λ p t. R .slots .inside p (sub p t);
             })
-            (R .serials-w) (R .start-below) (R .back-within) (R .none) (λ p t. R .low p (sub p t));
+            (R .serials-fit) (R .start-below) (R .back-within) (R .none) (λ p t. R .low p (sub p t));
         kept-within = S .kept-within;
         in-mode = fewer-in (r .mode) (S .in-mode);
       }
@@ -266,7 +276,7 @@ pub release-kept : (w : ℕ) (r : BufferPool) (h : Handle) → Orderly w r → O
 unfolding releaseStep names
 release-kept w r h S = pick-cases (λ (c : Called). Orderly w (c .pool)) (names w r h) named (λ e. S)
   where
-    named : names w r h ≡ true → Orderly w (fewer r (released w (r .live) (h .slot)))
+    named : names w r h ≡ true → Orderly w (freed w r (h .slot))
     named e =
         let x = leb-and 1 (h .slot) e in
         let y = leb-and (h .slot) w (x .1) in

@@ -13,11 +13,11 @@ use Rattle.buffer_pool.specs.declared.buffer_pool.PoolFront.{PoolFront}
 use Rattle.buffer_pool.specs.declared.buffer_pool.PoolMode.{PoolMode}
 use Rattle.buffer_pool.specs.declared.buffer_pool.PoolMode.the-variants.{Back, Front, Alloc}
 use Rattle.buffer_pool.specs.declared.buffer_pool.Called.{Called}
-use Rattle.buffer_pool.specs.Record.{marked}
+use Rattle.buffer_pool.specs.Record.{callerCount, marked}
 use Rattle.buffer_pool.specs.Moves.{Move}
 use Rattle.buffer_pool.specs.Placing.{Decision, Layer, tailCleared, headCleared, toAlloc, finish, backOn, shorter, frontCleared, leaveOn, frontOn, allocOn, layer, backLayer, frontLayer, allocLayer, resolve, placeOf, mostChanges, resets, resetOn, reset, place, tooLong}
 use Rattle.buffer_pool.specs.Sound.{Held}
-use Rattle.buffer_pool.specs.Steps.{frame, frameOf, reserveOn, reserveStep, resized, commitStep, truncateStep, mostSerials, takeOn, takeStep, names, releaseStep}
+use Rattle.buffer_pool.specs.Steps.{frame, frameOf, reserveOn, reserveStep, resized, commitStep, truncateStep, mostSerials, givenTo, takeOn, takeStep, names, releaseStep}
 use Rattle.buffer_pool.proofs.Order.{none-held}
 use Rattle.buffer_pool.proofs.ReserveKept.{none-live}
 
@@ -29,7 +29,8 @@ pub record Fixed : Type 0 where
   pub starts : List ℕ
   pub lengths : List ℕ
   pub serials : List ℕ
-  pub given : ℕ
+  pub callers : List ℕ
+  pub given : List ℕ
 
 abbrev pub fixed : BufferPool → Fixed
 fixed r =
@@ -40,6 +41,7 @@ fixed r =
       starts = r .starts;
       lengths = r .lengths;
       serials = r .serials;
+      callers = r .callers;
       given = r .given;
     }
 
@@ -100,7 +102,7 @@ module _ (w len : ℕ) (P : ℕ → Fixed → BufferPool → ℕ → Type 0)
 module _ (w : ℕ) (r : BufferPool) where
   -- r with another record's starts and lengths: a reset may clear them, if no slot is live
   abbrev entriesOf : BufferPool → BufferPool
-  entriesOf q = marked r (r .live) (q .starts) (q .lengths) (r .serials) (r .given)
+  entriesOf q = marked r (r .live) (q .starts) (q .lengths) (r .serials) (r .callers) (r .given)
 
   reset-fixed : fixed (reset w r) ≡ fixed (entriesOf (reset w r))
   unfolding reset resetOn
@@ -147,6 +149,9 @@ module _ (w : ℕ) (r : BufferPool) where
     pub place-serials : place w r len .next .serials ≡ r .serials
     place-serials = ap (λ (x : Fixed). x .serials) place-fixed
 
+    pub place-callers : place w r len .next .callers ≡ r .callers
+    place-callers = ap (λ (x : Fixed). x .callers) place-fixed
+
     pub place-given : place w r len .next .given ≡ r .given
     place-given = ap (λ (x : Fixed). x .given) place-fixed
 
@@ -186,19 +191,21 @@ module _ (r : BufferPool) where
   unfolding truncateStep
   truncate-sizes n = resized-sizes (r .mode) (min (frame r .length) n)
 
-  pub take-sizes : (w destination : ℕ) → SameSizes r (takeStep w r destination .pool)
+  pub take-sizes : (w caller destination : ℕ) → SameSizes r (takeStep w r caller destination .pool)
   unfolding takeStep takeOn
-  take-sizes w destination =
-      go (eqb (frame r .length) 0) (ltb destination (frame r .length)) (leb mostSerials (r .given)) (r .mode)
+  take-sizes w caller destination =
+      go (leb callerCount caller) (eqb (frame r .length) 0) (ltb destination (frame r .length))
+      (leb mostSerials (givenTo r caller)) (r .mode)
     where
-      go : (z long spent : Bool) (mode : PoolMode) → SameSizes r (takeOn z long spent mode w r .pool)
-      go true long spent mode = resized-sizes mode (frameOf mode r .length)
-      go false long true Back = (refl, refl)
-      go false long false Back = (refl, refl)
-      go false long true (Front f) = (refl, refl)
-      go false long false (Front f) = (refl, refl)
-      go false true spent Alloc = (refl, refl)
-      go false false spent Alloc = (refl, refl)
+      go : (none z long spent : Bool) (mode : PoolMode) → SameSizes r (takeOn none z long spent mode w caller r .pool)
+      go true z long spent mode = (refl, refl)
+      go false true long spent mode = resized-sizes mode (frameOf mode r .length)
+      go false false long true Back = (refl, refl)
+      go false false long false Back = (refl, refl)
+      go false false long true (Front f) = (refl, refl)
+      go false false long false (Front f) = (refl, refl)
+      go false false true spent Alloc = (refl, refl)
+      go false false false spent Alloc = (refl, refl)
 
   pub release-sizes : (w : ℕ) (h : Handle) → SameSizes r (releaseStep w r h .pool)
   unfolding releaseStep

@@ -24,7 +24,7 @@ use Rattle.buffer_pool.specs.Vocabulary.{Part, TheFrame, TheReservation,
 use Rattle.buffer_pool.proofs.BoundLaws.{end-some}
 use Rattle.buffer_pool.proofs.Soundness.{sound-use}
 use Rattle.buffer_pool.proofs.Ranges.{bytesFor, Inside, orderly-inside}
-use Rattle.buffer_pool.proofs.Handles.{names-use}
+use Rattle.buffer_pool.proofs.Named.{names-use}
 
 -- memories that fit have the record's lengths
 pub fits : (p : BufferPool) (m : Memories) → misfit p m ≡ false → (length (m .pool) ≡ p .capacity) × (length (m .overflow) ≡ p .overflow)

@@ -44,9 +44,9 @@ rustAt mode r m own reserved = pool (backOf r) mode (innerOf r (m .pool)) (syste
 abbrev pub rustOf : BufferPool → Memories → ℕ → RustPool
 rustOf r m own = rustAt (r .mode) r m own (r .reserved)
 
--- p is the Rust's pool of r, with these bytes of the pool and of the `Vec`. The serials and the overflow's length are ours
--- alone; the capacity and the kept length are the lengths of the bytes. The `Vec`'s own `reserved` is the pool's in A; in B
--- and F it is left from an earlier A.
+-- p is the Rust's pool of r, with these bytes of the pool and of the `Vec`. The serials, the callers and the overflow's length are
+-- ours alone; the capacity and the kept length are the lengths of the bytes. The `Vec`'s own `reserved` is the pool's in A; in B and
+-- F it is left from an earlier A.
 pub record Mirrors (r : BufferPool) (m : Memories) (p : RustPool) : Type 0 where
   pub own : ℕ
   pub is : p ≡ rustOf r m own

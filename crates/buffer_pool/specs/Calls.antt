@@ -89,10 +89,12 @@ unfoldable pub copiedOut : Called → BufferPool → Memories → List ℕ → �
 copiedOut call r m destination n =
     outcome call (perform (takeMoves r n) m) (copied (m .overflow) 0 n destination 0)
 
-unfoldable pub take : ℕ → BufferPool → Memories → List ℕ → Outcome
-take w r m destination =
+-- W-205: "A take names its caller"
+unfoldable pub take : ℕ → BufferPool → Memories → ℕ → List ℕ → Outcome
+take w r m caller destination =
     guardedCall w r m destination
-    (copiedOut (takeStep w r (length destination)) r m destination (values (takeStep w r (length destination) .answer) .length))
+    (copiedOut (takeStep w r caller (length destination)) r m destination
+    (values (takeStep w r caller (length destination) .answer) .length))
 
 unfoldable pub release : ℕ → BufferPool → Memories → Handle → Outcome
 release w r m h = guardedCall w r m [] (outcome (releaseStep w r h) m [])

@@ -191,14 +191,21 @@ writeIn Overflow m start bytes = memories (m .pool) (copied bytes 0 (length byte
 
 -- the handle of the slice last taken as slot p
 abbrev pub entry : BufferPool → ℕ → Handle
-entry r p = record { slot = p; start = startAt (r .starts) p; length = startAt (r .lengths) p; serial = startAt (r .serials) p }
+entry r p =
+    record {
+      slot = p;
+      start = startAt (r .starts) p;
+      length = startAt (r .lengths) p;
+      serial = startAt (r .serials) p;
+      caller = startAt (r .callers) p;
+    }
 
 unfoldable pub play : BufferPool → Memories → CaseCall → Outcome
 play r m (Reserve n) = calls.reserve slotCount r m n
 play r m (Write bytes) = calls.outcome (record { pool = r; answer = Done }) (writeIn (reservation r .memory) m (reservation r .start) bytes) []
 play r m (Commit n) = calls.commit slotCount r m n
 play r m (Truncate n) = calls.truncate slotCount r m n
-play r m Take = calls.take slotCount r m (strange (r .overflow))
+play r m Take = calls.take slotCount r m 0 (strange (r .overflow))
 play r m (Release p) = calls.release slotCount r m (entry r p)
 
 unfoldable pub see : BufferPool → Outcome → Seen

@@ -18,7 +18,7 @@ use Rattle.buffer_pool.specs.Record.{byteLimit, startAt}
 use Rattle.buffer_pool.specs.Moves.{Memories}
 use Rattle.buffer_pool.specs.Placing.{mostChanges}
 use Rattle.buffer_pool.specs.Soundness.{sound}
-use Rattle.buffer_pool.specs.Steps.{frame, reservation, mostSerials}
+use Rattle.buffer_pool.specs.Steps.{frame, reservation, mostSerials, givenTo}
 use Rattle.buffer_pool.specs.Calls.{misfit}
 use Rattle.buffer_pool.specs.Rust.{Run, done, panic, Reply, rust-reserve}
 use Rattle.buffer_pool.specs.AsRust.{rustOf, heapOf}
@@ -58,17 +58,25 @@ pastReservation r n = ltb (reservation r .length) n
 unfoldable pub destinationTooShort : BufferPool → List ℕ → Bool
 destinationTooShort r destination = inOverflow (frame r .memory) && ltb (length destination) (frame r .length)
 
--- 7: "the handle's slot is not one of 1 to w, or is not live, or the handle's start, length or serial is not that slot's"
+-- 12: "the caller is above 3"
+unfoldable pub unknownCaller : ℕ → Bool
+unknownCaller caller = ltb 3 caller
+
+-- 7: "the handle's slot is not one of 1 to w, or is not live, or the handle's start, length, serial or caller is not that slot's, or
+-- the handle's caller is above 3"
 unfoldable pub unknown : ℕ → BufferPool → Handle → Bool
 unknown w r h =
     not (leb 1 (h .slot) && leb (h .slot) w)
     || (not (liveAt w (r .live) (h .slot))
     || (not (eqb (h .start) (startAt (r .starts) (h .slot)))
-    || (not (eqb (h .length) (startAt (r .lengths) (h .slot))) || not (eqb (h .serial) (startAt (r .serials) (h .slot))))))
+    || (not (eqb (h .length) (startAt (r .lengths) (h .slot)))
+    || (not (eqb (h .serial) (startAt (r .serials) (h .slot)))
+    || (not (eqb (h .caller) (startAt (r .callers) (h .slot))) || unknownCaller (h .caller))))))
 
--- 8: "the frame is not empty, lies in the pool, and 4,294,967,295 serials were given"
-unfoldable pub serialsExhausted : BufferPool → Bool
-serialsExhausted r = not (inOverflow (frame r .memory)) && (ltb 0 (frame r .length) && leb mostSerials (r .given))
+-- 8: "the frame is not empty, lies in the pool, and 4,294,967,295 serials were given to the caller"
+unfoldable pub serialsExhausted : BufferPool → ℕ → Bool
+serialsExhausted r caller =
+    not (inOverflow (frame r .memory)) && (ltb 0 (frame r .length) && leb mostSerials (givenTo r caller))
 
 -- ---- The order, SPECIFICATION 3.4: "1, then 2, then the call's own cause"
 
@@ -88,7 +96,8 @@ unfoldable pub ownCauses : ℕ → BufferPool → Memories → Call → List Cau
 ownCauses w r m (Reserve len) = cause 4 (heapTooShort w r m len) ∷ []
 ownCauses w r m (Commit n) = cause 5 (pastReservation r n) ∷ []
 ownCauses w r m (Truncate n) = []
-ownCauses w r m (Take destination) = cause 6 (destinationTooShort r destination) ∷ cause 8 (serialsExhausted r) ∷ []
+ownCauses w r m (Take caller destination) =
+    cause 12 (unknownCaller caller) ∷ cause 6 (destinationTooShort r destination) ∷ cause 8 (serialsExhausted r caller) ∷ []
 ownCauses w r m (Release h) = cause 7 (unknown w r h) ∷ []
 ownCauses w r m (Look part) = viewCauses w r part
 

@@ -16,4 +16,5 @@ pub mod AsRust
 pub mod Causes
 pub mod Together
 pub mod Cases
+pub mod CallerCases
 pub mod Computing

@@ -5,7 +5,7 @@ use mathlib.Core.Bool.{Bool, true, false, not, _&&_, _||_}
 use mathlib.Core.List.{List, [], _∷_, _++_}
 use Prim.Native.Nat.{ℕ, zero, suc, _+_, _-_, min, max}
 use lib.Dec.{leb, ltb, eqb}
-use lib.ListN.{getD, replicate}
+use lib.ListN.{getD}
 use lib.Count.{leadingZeros, trailingZeros}
 use Rattle.laws.specs.Tests.{pick}
 use Rattle.laws.specs.Live.{lastLive}
@@ -13,7 +13,7 @@ use Rattle.buffer_pool.specs.declared.buffer_pool.BufferPool.{BufferPool
 use Rattle.buffer_pool.specs.declared.buffer_pool.PoolFront.{PoolFront}
 use Rattle.buffer_pool.specs.declared.buffer_pool.PoolMode.{PoolMode}
 use Rattle.buffer_pool.specs.declared.buffer_pool.PoolMode.the-variants.{Back, Front, Alloc}
-use Rattle.buffer_pool.specs.Record.{after, front, placed, framed, marked}
+use Rattle.buffer_pool.specs.Record.{after, front, placed, framed, withoutEntries}
 use Rattle.buffer_pool.specs.Moves.{Move, In, Down, Out, Grow, within}
 
 -- what a reserve decides: the next record, the count of mode changes, the moves in their order, and whether the Rust would
@@ -241,7 +241,7 @@ unfoldable pub resetOn : Bool → Bool → Bool → PoolMode → ℕ → BufferP
 resetOn false t z mode w r = r
 resetOn true t z Back w r = placed r Back 0 0 0 0
 resetOn true t z (Front f) w r = placed r Back 0 0 0 0
-resetOn true true true Alloc w r = marked (placed r Back 0 0 0 0) (r .live) (replicate w 0) (replicate w 0) (r .serials) (r .given)
+resetOn true true true Alloc w r = withoutEntries w (placed r Back 0 0 0 0)
 resetOn true true false Alloc w r = framed (placed r Back 0 0 0 0) Back 0 (r .cursor) (r .kept - r .cursor) 0 (r .reserved)
 resetOn true false z Alloc w r = placed r Alloc (r .«back_start») (r .«back_len») 0 (r .«raw_offset»)
 

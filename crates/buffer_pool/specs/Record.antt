@@ -7,12 +7,17 @@ use Rattle.buffer_pool.specs.declared.buffer_pool.BufferPool.{BufferPool
 use Rattle.buffer_pool.specs.declared.buffer_pool.PoolMode.{PoolMode}
 use Rattle.buffer_pool.specs.declared.buffer_pool.PoolMode.the-variants.{Back, Front}
 
--- the slot count and the byte limit: the constants of the pool's type. A w in the other definitions is a slot count.
+-- the slot count, the byte limit and the count of callers: the constants of the pool's type. A w in the other definitions is a
+-- slot count.
 abbrev pub slotCount : ℕ
 slotCount = 8
 
 abbrev pub byteLimit : ℕ
 byteLimit = 1048576
+
+-- SPECIFICATION 1.14: a caller is "one of 0 to 3"
+abbrev pub callerCount : ℕ
+callerCount = 4
 
 -- the start of slot p's slice (SPECIFICATION 2.3)
 abbrev pub startAt : List ℕ → ℕ → ℕ
@@ -37,7 +42,8 @@ newRecord w capacity overflow =
       starts = replicate w 0;
       lengths = replicate w 0;
       serials = replicate w 0;
-      given = 0;
+      callers = replicate w 0;
+      given = replicate callerCount 0;
       «back_start» = 0;
       «back_len» = 0;
       used = 0;
@@ -59,6 +65,7 @@ placed r mode s n used offset =
       starts = r .starts;
       lengths = r .lengths;
       serials = r .serials;
+      callers = r .callers;
       given = r .given;
       «back_start» = s;
       «back_len» = n;
@@ -81,6 +88,7 @@ framed r mode offset len kept cursor reserved =
       starts = r .starts;
       lengths = r .lengths;
       serials = r .serials;
+      callers = r .callers;
       given = r .given;
       «back_start» = r .«back_start»;
       «back_len» = r .«back_len»;
@@ -93,9 +101,9 @@ framed r mode offset len kept cursor reserved =
       reserved = reserved;
     }
 
--- r with other live slots and other entries of the slots
-abbrev pub marked : BufferPool → ℕ → List ℕ → List ℕ → List ℕ → ℕ → BufferPool
-marked r live starts lengths serials given =
+-- r with other live slots, other entries of the slots and other counts of serials
+abbrev pub marked : BufferPool → ℕ → List ℕ → List ℕ → List ℕ → List ℕ → List ℕ → BufferPool
+marked r live starts lengths serials callers given =
     record {
       capacity = r .capacity;
       overflow = r .overflow;
@@ -103,6 +111,7 @@ marked r live starts lengths serials given =
       starts = starts;
       lengths = lengths;
       serials = serials;
+      callers = callers;
       given = given;
       «back_start» = r .«back_start»;
       «back_len» = r .«back_len»;
@@ -114,3 +123,11 @@ marked r live starts lengths serials given =
       cursor = r .cursor;
       reserved = r .reserved;
     }
+
+-- r with other live slots
+abbrev pub withLive : BufferPool → ℕ → BufferPool
+withLive r live = marked r live (r .starts) (r .lengths) (r .serials) (r .callers) (r .given)
+
+-- r with the starts and lengths of its w slots cleared
+abbrev pub withoutEntries : ℕ → BufferPool → BufferPool
+withoutEntries w r = marked r (r .live) (replicate w 0) (replicate w 0) (r .serials) (r .callers) (r .given)

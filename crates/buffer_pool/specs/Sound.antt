@@ -10,7 +10,7 @@ use Rattle.buffer_pool.specs.declared.buffer_pool.BufferPool.{BufferPool
 use Rattle.buffer_pool.specs.declared.buffer_pool.PoolFront.{PoolFront}
 use Rattle.buffer_pool.specs.declared.buffer_pool.PoolMode.{PoolMode}
 use Rattle.buffer_pool.specs.declared.buffer_pool.PoolMode.the-variants.{Back, Front, Alloc}
-use Rattle.buffer_pool.specs.Record.{byteLimit, startAt, after}
+use Rattle.buffer_pool.specs.Record.{byteLimit, callerCount, startAt, after}
 
 -- slot p is one of the w slots, and live
 pub record Held (w live p : ℕ) : Type 0 where
@@ -27,11 +27,17 @@ pub record Slots (w live : ℕ) (starts lengths : List ℕ) (capacity : ℕ) : T
   pub order : (p q : ℕ) → p < q → Held w live p → Held w live q → after starts lengths p ≤ startAt starts q
   pub inside : (p : ℕ) → Held w live p → after starts lengths p ≤ capacity
 
+-- a place for each slot's serial and caller, and for each caller's count of serials
+pub record SerialsFit (w : ℕ) (serials callers given : List ℕ) : Type 0 where
+  pub serials-w : w ≤ length serials
+  pub callers-w : w ≤ length callers
+  pub given-all : callerCount ≤ length given
+
 -- what holds in every mode, and all through a reserve: while a frame that goes out to the overflow has not been measured
 -- against it, the kept length may exceed the overflow by that frame
 pub record Ready (w : ℕ) (r : BufferPool) : Type 0 where
   pub slots : Slots w (r .live) (r .starts) (r .lengths) (r .capacity)
-  pub serials-w : w ≤ length (r .serials)
+  pub serials-fit : SerialsFit w (r .serials) (r .callers) (r .given)
   pub kept-in : r .kept ≤ max (r .overflow) (r .cursor)
   pub start-below : r .«back_start» < w
   pub back-within : r .«back_start» + r .«back_len» ≤ w

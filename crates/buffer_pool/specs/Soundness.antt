@@ -10,13 +10,14 @@ use Rattle.buffer_pool.specs.declared.buffer_pool.BufferPool.{BufferPool
 use Rattle.buffer_pool.specs.declared.buffer_pool.PoolFront.{PoolFront}
 use Rattle.buffer_pool.specs.declared.buffer_pool.PoolMode.{PoolMode}
 use Rattle.buffer_pool.specs.declared.buffer_pool.PoolMode.the-variants.{Back, Front, Alloc}
-use Rattle.buffer_pool.specs.Record.{byteLimit, startAt, after}
+use Rattle.buffer_pool.specs.Record.{byteLimit, callerCount, startAt, after}
 
--- 4.5: the live word has w bits and each array a place for every slot (in code the types say so)
+-- 4.5: the live word has w bits, each array a place for every slot and `given` one for every caller (in code the types say so)
 unfoldable pub shaped : ℕ → BufferPool → Bool
 shaped w r =
     ltb (r .live) (2 ^ w)
-    && (leb w (length (r .starts)) && (leb w (length (r .lengths)) && leb w (length (r .serials))))
+    && (leb w (length (r .starts)) && (leb w (length (r .lengths)) && (leb w (length (r .serials))
+    && (leb w (length (r .callers)) && leb callerCount (length (r .given))))))
 
 -- 4.2: no memory is longer than the limit
 unfoldable pub limited : BufferPool → Bool

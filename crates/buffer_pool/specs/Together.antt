@@ -113,7 +113,7 @@ abbrev pub heldAfter : ℕ → Ours → Call → List Handle
 heldAfter w s (Reserve len) = s .held
 heldAfter w s (Commit n) = s .held
 heldAfter w s (Truncate n) = s .held
-heldAfter w s (Take destination) = holding (saidBy w s (Take destination)) (s .held)
+heldAfter w s (Take c d) = holding (saidBy w s (Take c d)) (s .held)
 heldAfter w s (Release h) = letGo (numberOf w (s .pool) (s .memory) (Release h)) (h .slot) (s .held)
 heldAfter w s (Look p) = s .held
 
@@ -127,7 +127,7 @@ abbrev pub givenAt : ℕ → Ours → Call → Given
 givenAt w s (Reserve len) = Offer (saidBy w s (Reserve len) .place) (saidBy w s (Reserve len) .changes)
 givenAt w s (Commit n) = Whole (saidBy w s (Commit n) .place)
 givenAt w s (Truncate n) = Whole (saidBy w s (Truncate n) .place)
-givenAt w s (Take d) = Sliced (sliceOf (saidBy w s (Take d)) (outcomeIn w s (Take d) .destination))
+givenAt w s (Take c d) = Sliced (sliceOf (saidBy w s (Take c d)) (outcomeIn w s (Take c d) .destination))
 givenAt w s (Release h) = Nothing
 givenAt w s (Look p) = Viewed (seenIn w s p)
 
@@ -230,7 +230,7 @@ rustCall w t (Reserve len) =
     with (rust-reserve w (suc mostChanges) (t .pool) len) (λ a. did (Offer (a .writable) (a .changes)) (a .left) (t .held))
 rustCall w t (Commit n) = with (rust-commit (t .pool) n) (λ q. did (Whole (rustFrame q)) q (t .held))
 rustCall w t (Truncate n) = with (done (rust-truncate (t .pool) n)) (λ q. did (Whole (rustFrame q)) q (t .held))
-rustCall w t (Take destination) =
+rustCall w t (Take caller destination) =
     with (rust-take w (t .pool)) (λ a. did (Sliced (a .slice)) (a .left) (rustHolding (a .slice) (t .held)))
 rustCall w t (Release h) =
     then (heldPlace (h .slot) (t .held))

@@ -14,7 +14,7 @@ noPlace = record { memory = Pool; start = 0; length = 0 }
 
 -- no handle: that of no slot
 abbrev pub noHandle : Handle
-noHandle = record { slot = 0; start = 0; length = 0; serial = 0 }
+noHandle = record { slot = 0; start = 0; length = 0; serial = 0; caller = 0 }
 
 pub record Values : Type 0 where
   -- the refusal's number, and 0 for what is not refused (SPECIFICATION 1.11)

@@ -30,8 +30,8 @@ pub data Call : Type 0 where
   Reserve : ℕ → Call
   Commit : ℕ → Call
   Truncate : ℕ → Call
-  -- with this destination
-  Take : List ℕ → Call
+  -- by this caller, with this destination
+  Take : ℕ → List ℕ → Call
   Release : Handle → Call
   -- a view, or the call with the same arguments that tells its number
   Look : Part → Call
@@ -41,7 +41,7 @@ abbrev pub destinationOf : Call → List ℕ
 destinationOf (Reserve len) = []
 destinationOf (Commit n) = []
 destinationOf (Truncate n) = []
-destinationOf (Take destination) = destination
+destinationOf (Take caller destination) = destination
 destinationOf (Release h) = []
 destinationOf (Look part) = []
 
@@ -62,7 +62,7 @@ unfoldable pub call : ℕ → BufferPool → Memories → Call → Outcome
 call w r m (Reserve len) = reserve w r m len
 call w r m (Commit n) = commit w r m n
 call w r m (Truncate n) = truncate w r m n
-call w r m (Take destination) = take w r m destination
+call w r m (Take caller destination) = take w r m caller destination
 call w r m (Release h) = release w r m h
 call w r m (Look part) = outcome (called r (viewAnswer (viewOf w r m part .number) (viewOf w r m part .place))) m []
 
@@ -95,7 +95,7 @@ unfoldable pub Result : Call → Called → Type 0
 Result (Reserve len) c = (changes : ℕ) × (values (c .answer) ≡ valued 0 (reservation (c .pool)) noHandle 0 changes)
 Result (Commit n) c = values (c .answer) ≡ valued 0 (frame (c .pool)) noHandle 0 0
 Result (Truncate n) c = values (c .answer) ≡ valued 0 (frame (c .pool)) noHandle 0 0
-Result (Take destination) c =
+Result (Take caller destination) c =
     ((h : Handle) × (0 < h .slot) × (values (c .answer) ≡ valued 0 noPlace h 0 0))
     ⊎ ((n : ℕ) × (values (c .answer) ≡ valued 0 noPlace noHandle n 0))
 Result (Release h) c = values (c .answer) ≡ valued 0 noPlace noHandle 0 0

@@ -1,7 +1,6 @@
 // The pool's record, its modes and what its calls answer (buffer_pool/mod.rs of the Rust).
 ghost use mathlib.Core.Path.{_≡_};
-ghost use lib.ListN.{replicate};
-ghost use Rattle.buffer_pool.specs.Record.{slotCount, newRecord, placed, framed, marked};
+ghost use Rattle.buffer_pool.specs.Record.{slotCount, newRecord, placed, framed, withoutEntries};
 ghost use Rattle.buffer_pool.specs.Values.{noPlace, noHandle, values};
 use crate::slice::Handle;
 
@@ -27,11 +26,13 @@ pub struct BufferPool {
     pub capacity: u64,
     pub overflow: u64,
 
-    // for each slot the slice that was last taken there, how many serials were given, and the live slots
+    // for each slot the slice that was last taken there and its caller, for each caller how many serials it was given, and the live
+    // slots
     pub starts: [u32; BufferPool::POOL_CAPACITY],
     pub lengths: [u32; BufferPool::POOL_CAPACITY],
     pub serials: [u32; BufferPool::POOL_CAPACITY],
-    pub given: u32,
+    pub given: [u32; BufferPool::CALLERS],
+    pub callers: [u8; BufferPool::POOL_CAPACITY],
     pub live: u8,
 
     // PoolBack: the back begins after slot `back_start` and has `back_len` slots
@@ -186,6 +187,7 @@ fn no_handle() -> Handle
         start: 0,
         length: 0,
         serial: 0,
+        caller: 0,
     }
 }
 
@@ -202,6 +204,9 @@ impl BufferPool {
     // The greatest length of a lent memory.
     pub const BYTE_LIMIT: u64 = 1_048_576;
 
+    // How many callers have serials of their own: 0 to 3.
+    pub const CALLERS: usize = 4;
+
     // The record of a new pool with memories of these lengths.
     pub fn with_lengths(capacity: u64, overflow: u64) -> Self
         ensures { λ r. ⌜ r ≡ newRecord slotCount capacity overflow ⌝ }
@@ -213,7 +218,8 @@ impl BufferPool {
             starts: [0; BufferPool::POOL_CAPACITY],
             lengths: [0; BufferPool::POOL_CAPACITY],
             serials: [0; BufferPool::POOL_CAPACITY],
-            given: 0,
+            callers: [0; BufferPool::POOL_CAPACITY],
+            given: [0; BufferPool::CALLERS],
             back_start: 0,
             back_len: 0,
             used: 0,
@@ -240,6 +246,8 @@ impl BufferPool {
         let starts = self.starts;
         let lengths = self.lengths;
         let serials = self.serials;
+        let callers = self.callers;
+        let given = self.given;
         BufferPool {
             capacity: self.capacity,
             overflow: self.overflow,
@@ -247,7 +255,8 @@ impl BufferPool {
             starts: starts,
             lengths: lengths,
             serials: serials,
-            given: self.given,
+            callers: callers,
+            given: given,
             back_start: back_start,
             back_len: back_len,
             used: used,
@@ -275,6 +284,8 @@ impl BufferPool {
         let starts = self.starts;
         let lengths = self.lengths;
         let serials = self.serials;
+        let callers = self.callers;
+        let given = self.given;
         BufferPool {
             capacity: self.capacity,
             overflow: self.overflow,
@@ -282,7 +293,8 @@ impl BufferPool {
             starts: starts,
             lengths: lengths,
             serials: serials,
-            given: self.given,
+            callers: callers,
+            given: given,
             back_start: self.back_start,
             back_len: self.back_len,
             used: self.used,
@@ -297,7 +309,7 @@ impl BufferPool {
 
     // The record with the slots' starts and lengths cleared.
     pub(crate) fn without_entries(self) -> Self
-        ensures { λ r. ⌜ r ≡ marked self (self .live) (replicate slotCount 0) (replicate slotCount 0) (self .serials) (self .given) ⌝ }
+        ensures { λ r. ⌜ r ≡ withoutEntries slotCount self ⌝ }
     {
         let mut p = self;
         p.starts = [0; BufferPool::POOL_CAPACITY];

@@ -120,15 +120,16 @@ fn commit_cause(p: BufferPool, pool: &[u8], overflow: &[u8], n: u64) -> u8
     0
 }
 
-// What turns a take away: 1 or 2, 6 if the destination is too short for a frame of the overflow, 8 if all serials are given, or 0.
-fn take_cause(p: BufferPool, pool: &[u8], overflow: &[u8], destination: u64) -> u8
-    ensures { λ r. ⌜ r ≡ spec.numbered slotCount p (memories (now (pool .entry)) (now (overflow .entry))) (refusal (steps.takeStep slotCount p destination .answer)) ⌝ }
+// What turns a take away: 1 or 2, 12 if the caller is above 3, 6 if the destination is too short for a frame of the overflow, 8 if
+// all serials are given to the caller, or 0.
+fn take_cause(p: BufferPool, pool: &[u8], overflow: &[u8], caller: u64, destination: u64) -> u8
+    ensures { λ r. ⌜ r ≡ spec.numbered slotCount p (memories (now (pool .entry)) (now (overflow .entry))) (refusal (steps.takeStep slotCount p caller destination .answer)) ⌝ }
 {
     let number = guard(p, pool, overflow);
     if number != 0 {
         return number;
     }
-    steps::take_refusal(p, destination)
+    steps::take_refusal(p, caller, destination)
 }
 
 // What turns a release away: 1 or 2, 7 if the handle names no live slice, or 0.
@@ -219,17 +220,24 @@ impl BufferPool {
         steps::truncate_step(self, n)
     }
 
-    // The frame is finished: gives the handle of a slice of the pool, or copies a frame of the overflow to the start of
-    // `destination` and gives its length; an empty frame gives length 0. Refuses with 1, 2, with 6 if a frame of the overflow is
-    // longer than `destination`, and with 8 if all serials are given.
-    pub fn take(self, pool: &[u8], overflow: &mut [u8], destination: &mut [u8]) -> Called
-        ensures { λ r. ⌜ spec.outcome r (memories (now (pool .entry)) (now (overflow .exit))) (now (destination .exit)) ≡ spec.take slotCount self (memories (now (pool .entry)) (now (overflow .entry))) (now (destination .entry)) ⌝ }
+    // The frame is finished: gives the handle of a slice of the pool, with the caller's next serial, or copies a frame of the
+    // overflow to the start of `destination` and gives its length; an empty frame gives length 0. Refuses with 1, 2, with 12 if the
+    // caller is above 3, with 6 if a frame of the overflow is longer than `destination`, and with 8 if all serials are given to the
+    // caller.
+    pub fn take(
+        self,
+        pool: &[u8],
+        overflow: &mut [u8],
+        caller: u64,
+        destination: &mut [u8],
+    ) -> Called
+        ensures { λ r. ⌜ spec.outcome r (memories (now (pool .entry)) (now (overflow .exit))) (now (destination .exit)) ≡ spec.take slotCount self (memories (now (pool .entry)) (now (overflow .entry))) caller (now (destination .entry)) ⌝ }
     {
-        let number = take_cause(self, pool, overflow, destination.len() as u64);
+        let number = take_cause(self, pool, overflow, caller, destination.len() as u64);
         if number != 0 {
             return steps::refused(self, number);
         }
-        let taken = steps::take_step(self, destination.len() as u64);
+        let taken = steps::take_step(self, caller, destination.len() as u64);
         let answer = taken.answer;
         let n = answer.copied();
         if n == 0 {

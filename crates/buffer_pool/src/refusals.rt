@@ -14,5 +14,7 @@ pub const COMMIT_TOO_LONG: u8 = 5;
 pub const DESTINATION_TOO_SHORT: u8 = 6;
 // release, and a view of or a write to a slice: the handle names no live slice
 pub const NOT_LIVE: u8 = 7;
-// take: a frame of the pool is not empty, and all serials are given
+// take: a frame of the pool is not empty, and all serials are given to the caller
 pub const NO_SERIALS: u8 = 8;
+// take: the caller is above 3
+pub const UNKNOWN_CALLER: u8 = 12;

@@ -6,12 +6,13 @@ ghost use Rattle.laws.specs.Live.{slotMask, claimed, released, liveAt, lastLive
 ghost use Rattle.buffer_pool.specs.Record.{slotCount};
 use crate::buffer_pool::BufferPool;
 
-// What a take gives for a slice: its slot, its place in the pool memory and its serial.
+// What a take gives for a slice: its slot, its place in the pool memory, its serial and its caller.
 pub struct Handle {
     pub slot: u8,
     pub start: u32,
     pub length: u32,
     pub serial: u32,
+    pub caller: u8,
 }
 
 // The bit that tracks slot `position`: `SharedState::mask`.

@@ -2,7 +2,7 @@
 ghost use mathlib.Core.Path.{_≡_};
 ghost use Prim.Native.Nat.{_+_, _≤_, _<_};
 ghost use lib.Dec.{leb, ltb};
-ghost use Rattle.buffer_pool.specs.Record.{slotCount};
+ghost use Rattle.buffer_pool.specs.Record.{slotCount, callerCount};
 ghost use Rattle.buffer_pool.specs.Sound.{Orderly};
 ghost use Rattle.buffer_pool.specs.Placing.{isAlloc};
 ghost use Rattle.buffer_pool.specs.Values.{refusal};
@@ -102,19 +102,33 @@ pub(crate) fn truncate_step(p: BufferPool, n: u64) -> Called
     reframed(resized(p, whole.length))
 }
 
-// The frame as the slice of the next slot, with the next serial; an empty frame begins after it: `InnerMemory::get_data_owned`.
-fn hand_out(p: BufferPool, mode: PoolMode, back_len: usize) -> BufferPool
-    requires { ⌜ (p .used < slotCount) × (p .«raw_offset» + p .«raw_len» ≤ 4294967295) × (p .given < 4294967295) ⌝ }
-    ensures { λ r. ⌜ r ≡ spec.handedOut slotCount p mode «back_len» ⌝ }
+// How many serials the caller was given.
+fn given_to(p: BufferPool, caller: usize) -> u32
+    requires { ⌜ caller < callerCount ⌝ }
+    ensures { λ r. ⌜ r ≡ spec.givenTo p caller ⌝ }
+{
+    let given = p.given;
+    given[caller]
+}
+
+// The frame as the slice of the next slot, with the caller's next serial; an empty frame begins after it:
+// `InnerMemory::get_data_owned`.
+fn hand_out(p: BufferPool, caller: usize, mode: PoolMode, back_len: usize) -> BufferPool
+    requires { ⌜ (p .used < slotCount) × (p .«raw_offset» + p .«raw_len» ≤ 4294967295) × (caller < callerCount) × (spec.givenTo p caller < 4294967295) ⌝ }
+    ensures { λ r. ⌜ r ≡ spec.handedOut slotCount caller p mode «back_len» ⌝ }
 {
     let k = p.used;
-    let serial = p.given + 1;
+    let serial = given_to(p, caller) + 1;
+    let mut given = p.given;
+    given[caller] = serial;
     let mut starts = p.starts;
     starts[k] = p.raw_offset as u32;
     let mut lengths = p.lengths;
     lengths[k] = p.raw_len as u32;
     let mut serials = p.serials;
     serials[k] = serial;
+    let mut callers = p.callers;
+    callers[k] = caller as u8;
     let position = k + 1;
     BufferPool {
         capacity: p.capacity,
@@ -123,7 +137,8 @@ fn hand_out(p: BufferPool, mode: PoolMode, back_len: usize) -> BufferPool
         starts: starts,
         lengths: lengths,
         serials: serials,
-        given: serial,
+        callers: callers,
+        given: given,
         back_start: p.back_start,
         back_len: back_len,
         used: position,
@@ -136,22 +151,24 @@ fn hand_out(p: BufferPool, mode: PoolMode, back_len: usize) -> BufferPool
     }
 }
 
-// A take of a non-empty frame of the pool.
-fn take_pooled(p: BufferPool, mode: PoolMode, back_len: usize) -> Called
-    requires { ⌜ (p .used < slotCount) × (p .«raw_offset» + p .«raw_len» ≤ 4294967295) ⌝ }
-    ensures { λ r. ⌜ r ≡ spec.pooled (leb 4294967295 (p .given)) slotCount p mode «back_len» ⌝ }
+// A caller's take of a non-empty frame of the pool.
+fn take_pooled(p: BufferPool, caller: usize, mode: PoolMode, back_len: usize) -> Called
+    requires { ⌜ (p .used < slotCount) × (p .«raw_offset» + p .«raw_len» ≤ 4294967295) × (caller < callerCount) ⌝ }
+    ensures { λ r. ⌜ r ≡ spec.pooled (leb 4294967295 (spec.givenTo p caller)) slotCount caller p mode «back_len» ⌝ }
 {
-    if 4294967295 <= p.given {
+    let last = given_to(p, caller);
+    if 4294967295 <= last {
         return refused(p, refusals::NO_SERIALS);
     }
     let handle = Handle {
         slot: (p.used + 1) as u8,
         start: p.raw_offset as u32,
         length: p.raw_len as u32,
-        serial: p.given + 1,
+        serial: last + 1,
+        caller: caller as u8,
     };
     Called {
-        pool: hand_out(p, mode, back_len),
+        pool: hand_out(p, caller, mode, back_len),
         answer: Answer::Taken(handle),
     }
 }
@@ -178,10 +195,14 @@ fn take_copied(p: BufferPool, destination: u64) -> Called
     }
 }
 
-// The number that a take to a destination of this length is refused with, or 0.
-pub(crate) fn take_refusal(p: BufferPool, destination: u64) -> u8
-    ensures { λ r. ⌜ r ≡ refusal (spec.takeStep slotCount p destination .answer) ⌝ }
+// The number that a caller's take to a destination of this length is refused with, or 0.
+pub(crate) fn take_refusal(p: BufferPool, caller: u64, destination: u64) -> u8
+    ensures { λ r. ⌜ r ≡ refusal (spec.takeStep slotCount p caller destination .answer) ⌝ }
 {
+    let c = caller as usize;
+    if BufferPool::CALLERS <= c {
+        return refusals::UNKNOWN_CALLER;
+    }
     let whole = frame(p);
     if whole.length == 0 {
         return 0;
@@ -192,7 +213,7 @@ pub(crate) fn take_refusal(p: BufferPool, destination: u64) -> u8
         }
         return 0;
     }
-    if 4294967295 <= p.given {
+    if 4294967295 <= given_to(p, c) {
         return refusals::NO_SERIALS;
     }
     0
@@ -210,11 +231,15 @@ fn in_overflow(p: BufferPool) -> bool
     }
 }
 
-// Take: the frame becomes a slice of the pool, or is copied to a destination of this length.
-pub(crate) fn take_step(p: BufferPool, destination: u64) -> Called
+// Take: the frame becomes a slice of the pool, with a serial of this caller, or is copied to a destination of this length.
+pub(crate) fn take_step(p: BufferPool, caller: u64, destination: u64) -> Called
     requires { ⌜ (Orderly slotCount p) × (p .capacity ≤ 4294967295) ⌝ }
-    ensures { λ r. ⌜ r ≡ spec.takeStep slotCount p destination ⌝ }
+    ensures { λ r. ⌜ r ≡ spec.takeStep slotCount p caller destination ⌝ }
 {
+    let c = caller as usize;
+    if BufferPool::CALLERS <= c {
+        return refused(p, refusals::UNKNOWN_CALLER);
+    }
     let whole = frame(p);
     if whole.length == 0 {
         return Called {
@@ -224,9 +249,10 @@ pub(crate) fn take_step(p: BufferPool, destination: u64) -> Called
     }
     let mode = p.mode;
     match mode {
-        PoolMode::Back => take_pooled(p, PoolMode::Back, p.used + 1 - p.back_start),
+        PoolMode::Back => take_pooled(p, c, PoolMode::Back, p.used + 1 - p.back_start),
         PoolMode::Front(f) => take_pooled(
             p,
+            c,
             PoolMode::Front(PoolFront {
                 back_start: f.back_start,
                 byte_capacity: f.byte_capacity,
@@ -238,7 +264,7 @@ pub(crate) fn take_step(p: BufferPool, destination: u64) -> Called
     }
 }
 
-// Does the handle name a live slot, with that slot's start, length and serial?
+// Does the handle name a live slot, with that slot's start, length, serial and caller, which is one of the callers?
 pub(crate) fn names(p: BufferPool, h: Handle) -> bool
     ensures { λ r. ⌜ r ≡ spec.names slotCount p h ⌝ }
 {
@@ -262,7 +288,14 @@ pub(crate) fn names(p: BufferPool, h: Handle) -> bool
         return false;
     }
     let serials = p.serials;
-    h.serial == serials[i]
+    if h.serial != serials[i] {
+        return false;
+    }
+    let callers = p.callers;
+    if h.caller != callers[i] {
+        return false;
+    }
+    (h.caller as usize) < BufferPool::CALLERS
 }
 
 // Release: the slot of the handle is free.

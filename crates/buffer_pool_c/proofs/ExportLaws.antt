@@ -21,9 +21,9 @@ use Rattle.buffer_pool_c.specs.declared.results.ReserveResult.{ReserveRe
 use Rattle.buffer_pool_c.specs.declared.results.PlaceResult.{PlaceResult}
 use Rattle.buffer_pool_c.specs.declared.results.TakeResult.{TakeResult}
 use Rattle.buffer_pool_c.specs.Record.{known, noFront, poolOf, recordOf, recordAfter}
-use Rattle.buffer_pool_c.specs.Results.{reserveResult, placeResult, takeResult, refusalResult, viewResult, unknownView, named, slotInByte}
+use Rattle.buffer_pool_c.specs.Results.{reserveResult, placeResult, takeResult, refusalResult, viewResult, unknownView, named, inBytes}
 use Rattle.buffer_pool_c.specs.Exports.{left, seen, exported, reserve, commit, truncate, take, release, newly, new, exportedView, frame, reservation, slice}
-use Rattle.buffer_pool_c.proofs.ResultLaws.{released-in-byte, viewed-in-byte}
+use Rattle.buffer_pool_c.proofs.ResultLaws.{released-in-bytes, viewed-in-bytes}
 
 -- ---- A call, by whether the record is known
 
@@ -49,13 +49,14 @@ module _ (r : Record) (b : Bool) (e : b ≡ known r) (t : not b ≡ false) (p : 
   unfolding truncate
   truncate-through n g x k = through placeResult r b e m [] _ x t c after [] (g ∙ ap (λ (q : BufferPool). calls.truncate 8 q m n) i) k h f
 
-  pub take-through : (d ended : List ℕ) → outcome c after ended ≡ calls.take 8 p m d → (x : TakeResult) → x ≡ takeResult (c .answer) → left x h after ended ≡ take r m d
+  pub take-through : (caller : ℕ) (d ended : List ℕ) → outcome c after ended ≡ calls.take 8 p m caller d → (x : TakeResult)
+      → x ≡ takeResult (c .answer) → left x h after ended ≡ take r m caller d
   unfolding take
-  take-through d ended g x k = through takeResult r b e m d _ x t c after ended (g ∙ ap (λ (q : BufferPool). calls.take 8 q m d) i) k h f
+  take-through caller d ended g x k = through takeResult r b e m d _ x t c after ended (g ∙ ap (λ (q : BufferPool). calls.take 8 q m caller d) i) k h f
 
-  pub release-through : (a : Handle) (n : pool.Handle) → n ≡ named (slotInByte a) → outcome c after [] ≡ calls.release 8 p m n → (x : ℕ) → x ≡ values (c .answer) .number → left x h after [] ≡ release r m a
+  pub release-through : (a : Handle) (n : pool.Handle) → n ≡ named (inBytes a) → outcome c after [] ≡ calls.release 8 p m n → (x : ℕ) → x ≡ values (c .answer) .number → left x h after [] ≡ release r m a
   unfolding release
-  release-through a n j g x k = through refusalResult r b e m [] (calls.release 8 (poolOf r) m (named a)) x t c after [] (g ∙ rw (i, j) (released-in-byte (poolOf r) m a)) k h f
+  release-through a n j g x k = through refusalResult r b e m [] (calls.release 8 (poolOf r) m (named a)) x t c after [] (g ∙ rw (i, j) (released-in-bytes (poolOf r) m a)) k h f
 
 -- ---- Views
 
@@ -75,9 +76,9 @@ module _ (r : Record) (b : Bool) (e : b ≡ known r) (x : PlaceResult) where
     unfolding reservation
     reservation-through g = view-through t v (calls.reservationView 8 (poolOf r) m) (g ∙ ap (λ (q : BufferPool). calls.reservationView 8 q m) i) k
 
-    pub slice-through : (a : Handle) (n : pool.Handle) → n ≡ named (slotInByte a) → v ≡ calls.sliceView 8 p m n → x ≡ slice r m a
+    pub slice-through : (a : Handle) (n : pool.Handle) → n ≡ named (inBytes a) → v ≡ calls.sliceView 8 p m n → x ≡ slice r m a
     unfolding slice
-    slice-through a n j g = view-through t v (calls.sliceView 8 (poolOf r) m (named a)) (g ∙ rw (i, j) (viewed-in-byte (poolOf r) m a)) k
+    slice-through a n j g = view-through t v (calls.sliceView 8 (poolOf r) m (named a)) (g ∙ rw (i, j) (viewed-in-bytes (poolOf r) m a)) k
 
 -- ---- New
 

@@ -7,4 +7,5 @@ pub mod Answers
 pub mod ThinKept
 pub mod ThinSeen
 pub mod ThinRelent
+pub mod ThinRelentFour
 pub mod RefusedKeeps

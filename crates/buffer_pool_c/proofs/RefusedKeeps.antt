@@ -57,9 +57,11 @@ module _ (r : Record) (m : Memories) where
   unfolding truncate call numberOf refusal
   truncate-keeps n = kept placeResult (λ (x : PlaceResult). x .refusal) (λ a. refl) [] _ (pool.refused-keeps slotCount (poolOf r) m (Truncate n))
 
-  pub take-keeps : (d : List ℕ) → 0 < take r m d .result .refusal → take r m d ≡ left (takeResult (Refused (take r m d .result .refusal))) r m d
+  pub take-keeps : (caller : ℕ) (d : List ℕ) → let x = take r m caller d in
+      0 < x .result .refusal → x ≡ left (takeResult (Refused (x .result .refusal))) r m d
   unfolding take call numberOf refusal
-  take-keeps d = kept takeResult (λ (x : TakeResult). x .refusal) (λ a. refl) d _ (pool.refused-keeps slotCount (poolOf r) m (Take d))
+  take-keeps caller d =
+      kept takeResult (λ (x : TakeResult). x .refusal) (λ a. refl) d _ (pool.refused-keeps slotCount (poolOf r) m (Take caller d))
 
   pub release-keeps : (h : Handle) → 0 < release r m h .result → release r m h ≡ left (release r m h .result) r m []
   unfolding release call numberOf refusal

@@ -53,8 +53,9 @@ commit r m n = exported results.placeResult r m [] (calls.commit slotCount (pool
 unfoldable pub truncate : Record → Memories → ℕ → Left PlaceResult
 truncate r m n = exported results.placeResult r m [] (calls.truncate slotCount (poolOf r) m n)
 
-unfoldable pub take : Record → Memories → List ℕ → Left TakeResult
-take r m destination = exported results.takeResult r m destination (calls.take slotCount (poolOf r) m destination)
+unfoldable pub take : Record → Memories → ℕ → List ℕ → Left TakeResult
+take r m caller destination =
+    exported results.takeResult r m destination (calls.take slotCount (poolOf r) m caller destination)
 
 unfoldable pub release : Record → Memories → Handle → Left ℕ
 release r m h = exported results.refusalResult r m [] (calls.release slotCount (poolOf r) m (results.named h))

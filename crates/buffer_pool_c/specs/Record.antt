@@ -17,7 +17,7 @@ isMode number = leb number 2
 abbrev pub isLiveWord : ℕ → Bool
 isLiveWord word = ltb word (2 ^ slotCount)
 
--- can the record be a pool's, by its live word and its mode? C's fields hold any number of 16 bits
+-- can the record be a pool's, by its live word and its mode? C's fields hold any number of 32 bits
 abbrev pub known : Record → Bool
 known r = isLiveWord (r .live) && isMode (r .mode)
 
@@ -55,6 +55,7 @@ poolIn mode r =
       starts = r .starts;
       lengths = r .lengths;
       serials = r .serials;
+      callers = r .callers;
       given = r .given;
       «back_start» = r .«back_start»;
       «back_len» = r .«back_len»;
@@ -80,6 +81,7 @@ recordIn number front p =
       lengths = p .lengths;
       serials = p .serials;
       given = p .given;
+      callers = p .callers;
       live = p .live;
       mode = number;
       «back_start» = p .«back_start»;

@@ -28,7 +28,7 @@ placeOf p = record { start = p .start; length = p .length; memory = memoryNumber
 
 -- a handle as C has it
 abbrev pub handleOf : pool.Handle → Handle
-handleOf h = record { start = h .start; length = h .length; serial = h .serial; slot = h .slot }
+handleOf h = record { start = h .start; length = h .length; serial = h .serial; slot = h .slot; caller = h .caller }
 
 -- what a reserve gives
 abbrev pub reserveResult : Answer → ReserveResult
@@ -56,14 +56,22 @@ unknownView = viewResult (hidden 1)
 
 -- the pool's own handle
 abbrev pub named : Handle → pool.Handle
-named h = record { slot = h .slot; start = h .start; length = h .length; serial = h .serial }
+named h = record { slot = h .slot; start = h .start; length = h .length; serial = h .serial; caller = h .caller }
 
 -- ---- What the code passes on to the pool. No exported call's contract speaks of it
 
--- the slot in a byte, and 0 for one that has none. Neither that nor 0 is a slot (proofs/ResultLaws.antt, `no-slot`)
-abbrev pub slotByte : ℕ → ℕ
-slotByte slot = pick (ltb slot 256) slot 0
+-- the number in a byte, and `other` for one that has none
+abbrev pub byteOr : ℕ → ℕ → ℕ
+byteOr other number = pick (ltb number 256) number other
 
--- the handle with its slot in a byte
-abbrev pub slotInByte : Handle → Handle
-slotInByte h = record { start = h .start; length = h .length; serial = h .serial; slot = slotByte (h .slot) }
+-- the handle with its slot and its caller in a byte each: 0 is no slot and 255 no caller, and nor is what has no byte
+-- (proofs/ResultLaws.antt, `in-bytes`)
+abbrev pub inBytes : Handle → Handle
+inBytes h =
+    record {
+      start = h .start;
+      length = h .length;
+      serial = h .serial;
+      slot = byteOr 0 (h .slot);
+      caller = byteOr 255 (h .caller);
+    }

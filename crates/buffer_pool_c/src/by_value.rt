@@ -105,8 +105,14 @@ pub(crate) fn truncate(r: Record, pool: &[u8], overflow: &[u8], n: u64) -> Place
 }
 
 // A take.
-pub(crate) fn take(r: Record, pool: &[u8], overflow: &mut [u8], destination: &mut [u8]) -> TakenOn
-    ensures { λ o. ⌜ spec.left (o .result) (o .held) (memories (now (pool .entry)) (now (overflow .exit))) (now (destination .exit)) ≡ spec.take r (memories (now (pool .entry)) (now (overflow .entry))) (now (destination .entry)) ⌝ }
+pub(crate) fn take(
+    r: Record,
+    pool: &[u8],
+    overflow: &mut [u8],
+    caller: u64,
+    destination: &mut [u8],
+) -> TakenOn
+    ensures { λ o. ⌜ spec.left (o .result) (o .held) (memories (now (pool .entry)) (now (overflow .exit))) (now (destination .exit)) ≡ spec.take r (memories (now (pool .entry)) (now (overflow .entry))) caller (now (destination .entry)) ⌝ }
 {
     if !is_known(r) {
         return TakenOn {
@@ -114,7 +120,7 @@ pub(crate) fn take(r: Record, pool: &[u8], overflow: &mut [u8], destination: &mu
             result: results::take_result(Answer::Refused(refusals::UNSOUND)),
         };
     }
-    let called = pool_of(r).take(pool, overflow, destination);
+    let called = pool_of(r).take(pool, overflow, caller, destination);
     let answer = called.answer;
     TakenOn {
         held: record_after(r, called.pool),

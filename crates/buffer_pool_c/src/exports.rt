@@ -84,11 +84,12 @@ pub extern "C" fn buffer_pool_take(
     held: &mut Record,
     pool: &[u8],
     overflow: &mut [u8],
+    caller: u64,
     destination: &mut [u8],
 ) -> TakeResult
-    ensures { λ r. ⌜ spec.left r (now (held .exit)) (memories (now (pool .entry)) (now (overflow .exit))) (now (destination .exit)) ≡ spec.take (now (held .entry)) (memories (now (pool .entry)) (now (overflow .entry))) (now (destination .entry)) ⌝ }
+    ensures { λ r. ⌜ spec.left r (now (held .exit)) (memories (now (pool .entry)) (now (overflow .exit))) (now (destination .exit)) ≡ spec.take (now (held .entry)) (memories (now (pool .entry)) (now (overflow .entry))) caller (now (destination .entry)) ⌝ }
 {
-    let called = by_value::take(*held, pool, overflow, destination);
+    let called = by_value::take(*held, pool, overflow, caller, destination);
     *held = called.held;
     called.result
 }

@@ -8,7 +8,7 @@ use buffer_pool::buffer_pool::PoolFront;
 use buffer_pool::buffer_pool::PoolMode;
 
 // `buffer_pool_record`: the fields of the pool's record, its mode as a number and the front's three numbers beside it. It has no
-// padding: `given`, `live` and `mode` fill one word.
+// padding: `live` and `mode` fill one word.
 #[repr(C)]
 pub struct Record {
     pub capacity: u64,
@@ -16,9 +16,10 @@ pub struct Record {
     pub starts: [u32; BufferPool::POOL_CAPACITY],
     pub lengths: [u32; BufferPool::POOL_CAPACITY],
     pub serials: [u32; BufferPool::POOL_CAPACITY],
-    pub given: u32,
-    pub live: u16,
-    pub mode: u16,
+    pub given: [u32; BufferPool::CALLERS],
+    pub callers: [u8; BufferPool::POOL_CAPACITY],
+    pub live: u32,
+    pub mode: u32,
     pub back_start: usize,
     pub back_len: usize,
     pub used: usize,
@@ -33,10 +34,10 @@ pub struct Record {
 }
 
 // A live word is below this, as it has a bit for each slot.
-pub(crate) const LIVE_LIMIT: u16 = 1 << BufferPool::POOL_CAPACITY;
+pub(crate) const LIVE_LIMIT: u32 = 1 << BufferPool::POOL_CAPACITY;
 
 // The mode with this number; for a number that is none, the overflow.
-fn mode_of(number: u16, front: PoolFront) -> PoolMode
+fn mode_of(number: u32, front: PoolFront) -> PoolMode
     ensures { λ r. ⌜ r ≡ spec.modeOf number front ⌝ }
 {
     if number == 0 {
@@ -49,7 +50,7 @@ fn mode_of(number: u16, front: PoolFront) -> PoolMode
 }
 
 // The number of a mode.
-fn mode_number(mode: PoolMode) -> u16
+fn mode_number(mode: PoolMode) -> u32
     ensures { λ r. ⌜ r ≡ spec.modeNumber mode ⌝ }
 {
     match mode {
@@ -100,6 +101,8 @@ pub(crate) fn pool_of(r: Record) -> BufferPool
     let starts = r.starts;
     let lengths = r.lengths;
     let serials = r.serials;
+    let callers = r.callers;
+    let given = r.given;
     BufferPool {
         capacity: r.capacity,
         overflow: r.overflow,
@@ -107,7 +110,8 @@ pub(crate) fn pool_of(r: Record) -> BufferPool
         starts: starts,
         lengths: lengths,
         serials: serials,
-        given: r.given,
+        callers: callers,
+        given: given,
         back_start: r.back_start,
         back_len: r.back_len,
         used: r.used,
@@ -127,6 +131,8 @@ pub(crate) fn record_of(before: PoolFront, p: BufferPool) -> Record
     let starts = p.starts;
     let lengths = p.lengths;
     let serials = p.serials;
+    let callers = p.callers;
+    let given = p.given;
     let mode = p.mode;
     let front = front_of(mode, before);
     Record {
@@ -135,8 +141,9 @@ pub(crate) fn record_of(before: PoolFront, p: BufferPool) -> Record
         starts: starts,
         lengths: lengths,
         serials: serials,
-        given: p.given,
-        live: p.live as u16,
+        given: given,
+        callers: callers,
+        live: p.live as u32,
         mode: mode_number(mode),
         back_start: p.back_start,
         back_len: p.back_len,

@@ -22,7 +22,8 @@ pub struct Handle {
     pub start: u32,
     pub length: u32,
     pub serial: u32,
-    pub slot: u32,
+    pub slot: u16,
+    pub caller: u16,
 }
 
 // `buffer_pool_reserved`: the reservation, and how often the mode changed.
@@ -78,7 +79,8 @@ fn given_handle(h: slice::Handle) -> Handle
         start: h.start,
         length: h.length,
         serial: h.serial,
-        slot: h.slot as u32,
+        slot: h.slot as u16,
+        caller: h.caller as u16,
     }
 }
 
@@ -131,24 +133,26 @@ pub(crate) fn unknown_view() -> PlaceResult
     place_result(Answer::Refused(refusals::UNSOUND))
 }
 
-// A slot in a byte. One that has no byte becomes 0, which is no slot either.
-fn slot_byte(slot: u32) -> u8
-    ensures { λ r. ⌜ r ≡ spec.slotByte slot ⌝ }
+// A number in a byte, and `other` for one that has none.
+fn byte_or(other: u8, number: u16) -> u8
+    ensures { λ r. ⌜ r ≡ spec.byteOr other number ⌝ }
 {
-    if slot < 256 {
-        return slot as u8;
+    if number < 256 {
+        return number as u8;
     }
-    0
+    other
 }
 
-// The pool's own handle, with its slot in a byte.
+// The pool's own handle, with its slot and its caller in a byte each. A slot that has no byte becomes 0, which is no slot either, and
+// a caller 255, which is no caller either.
 pub(crate) fn named(h: Handle) -> slice::Handle
-    ensures { λ r. ⌜ r ≡ spec.named (spec.slotInByte h) ⌝ }
+    ensures { λ r. ⌜ r ≡ spec.named (spec.inBytes h) ⌝ }
 {
     slice::Handle {
-        slot: slot_byte(h.slot),
+        slot: byte_or(0, h.slot),
         start: h.start,
         length: h.length,
         serial: h.serial,
+        caller: byte_or(255, h.caller),
     }
 }

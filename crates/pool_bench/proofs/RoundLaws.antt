@@ -3,11 +3,13 @@ use mathlib.Core.Path.{_≡_, ap, _∙_}
 use mathlib.Core.List.{List, []}
 use Prim.Native.Nat.{ℕ, zero, suc, _-_, _≤_, _<_}
 use native.Mathlib.Omega.{arith}
+use lib.ListN.{getD}
 use Rattle.buffer_pool.specs.declared.slice.Handle.{Handle}
 use Rattle.buffer_pool.specs.declared.buffer_pool.BufferPool.{BufferPool}
 use Rattle.buffer_pool.specs.declared.buffer_pool.Called.{Called}
 use Rattle.buffer_pool.specs.Moves.{Memories}
 use Rattle.buffer_pool.specs.Values.{values}
+use Rattle.buffer_pool.specs.Steps.{givenTo}
 use Rattle.buffer_pool.specs.Calls.{Outcome, outcome, new, reserve, commit, take, release}
 use Rattle.pool_bench.specs.Rounds.{State, state, gathered, finished, rounds, started}
 
@@ -18,7 +20,7 @@ gathered-as p m len a n e b f =
     ap (λ (o : Outcome). state (o .call .pool) n []) f
     ∙ ap (λ (o : Outcome). state (commit 8 (o .call .pool) (o .memory) len .call .pool) (o .memory) []) e
 
-pub finished-as : (p : BufferPool) (m : Memories) (d : List ℕ) (a : Called) (n : Memories) (c : List ℕ) → outcome a n c ≡ take 8 p m d
+pub finished-as : (p : BufferPool) (m : Memories) (d : List ℕ) (a : Called) (n : Memories) (c : List ℕ) → outcome a n c ≡ take 8 p m 0 d
     → (h : Handle) → h ≡ values (a .answer) .handle → (b : Called) → outcome b n [] ≡ release 8 (a .pool) n h → state (b .pool) n c ≡ finished (state p m d)
 unfolding finished
 finished-as p m d a n c e h g b f =
@@ -47,8 +49,8 @@ module _ (m n : Memories) (d : List ℕ) (len k left : ℕ) (a : Called) (e : ou
       ap (λ (j : ℕ). rounds len j (state p q c)) none ∙ r
       ∙ ap (λ (o : Outcome). rounds len k (state (o .call .pool) (o .memory) d)) e
 
-  pub serials-given : p .given ≡ rounds len k (started m d) .held .given
-  serials-given = ap (λ (s : State). s .held .given) ended
+  pub serials-given : getD (p .given) 0 0 ≡ givenTo (rounds len k (started m d) .held) 0
+  serials-given = ap (λ (s : State). givenTo (s .held) 0) ended
 
   pub memories-left : q ≡ rounds len k (started m d) .memory
   memories-left = ap (λ (s : State). s .memory) ended

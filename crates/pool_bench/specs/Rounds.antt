@@ -22,10 +22,10 @@ gathered len s =
     let a : Outcome = reserve slotCount (s .held) (s .memory) len in
     state (commit slotCount (a .call .pool) (a .memory) len .call .pool) (a .memory) (s .destination)
 
--- take the frame and release the slice
+-- caller 0 takes the frame and releases the slice
 unfoldable pub finished : State → State
 finished s =
-    let a : Outcome = take slotCount (s .held) (s .memory) (s .destination) in
+    let a : Outcome = take slotCount (s .held) (s .memory) 0 (s .destination) in
     state (release slotCount (a .call .pool) (a .memory) (values (a .call .answer) .handle) .call .pool) (a .memory) (a .destination)
 
 unfoldable pub rounds : ℕ → ℕ → State → State

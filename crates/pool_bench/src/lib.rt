@@ -2,6 +2,7 @@
 ghost use mathlib.Core.Path.{_≡_};
 ghost use mathlib.Core.List.{[]};
 ghost use Rattle.buffer_pool.specs.Moves.{memories};
+ghost use Rattle.buffer_pool.specs.Steps.{givenTo};
 ghost use Rattle.pool_bench.specs.Rounds as spec;
 use buffer_pool::buffer_pool::BufferPool;
 
@@ -15,11 +16,11 @@ fn gathered(p: BufferPool, pool: &mut [u8], overflow: &mut [u8], len: u64) -> Bu
     committed.pool
 }
 
-// The frame taken and released.
+// The frame taken by caller 0 and released.
 fn finished(p: BufferPool, pool: &[u8], overflow: &mut [u8], destination: &mut [u8]) -> BufferPool
     ensures { λ r. ⌜ spec.state r (memories (now (pool .entry)) (now (overflow .exit))) (now (destination .exit)) ≡ spec.finished (spec.state p (memories (now (pool .entry)) (now (overflow .entry))) (now (destination .entry))) ⌝ }
 {
-    let took = p.take(pool, overflow, destination);
+    let took = p.take(pool, overflow, 0, destination);
     let answer = took.answer;
     let q = took.pool;
     let released = q.release(pool, overflow, answer.handle());
@@ -40,7 +41,7 @@ fn round(
     finished(q, pool, overflow, destination)
 }
 
-// So many rounds on a new pool over these memories; gives how many serials were given.
+// So many rounds on a new pool over these memories; gives how many serials caller 0 was given.
 #[no_mangle]
 pub extern "C" fn pool_bench_rounds(
     pool: &mut [u8],
@@ -49,7 +50,7 @@ pub extern "C" fn pool_bench_rounds(
     len: u64,
     rounds: u64,
 ) -> u32
-    ensures { λ r. ⌜ r ≡ spec.rounds len rounds (spec.started (memories (now (pool .entry)) (now (overflow .entry))) (now (destination .entry))) .held .given ⌝ }
+    ensures { λ r. ⌜ r ≡ givenTo (spec.rounds len rounds (spec.started (memories (now (pool .entry)) (now (overflow .entry))) (now (destination .entry))) .held) 0 ⌝ }
     ensures { λ _. ⌜ memories (now (pool .exit)) (now (overflow .exit)) ≡ spec.rounds len rounds (spec.started (memories (now (pool .entry)) (now (overflow .entry))) (now (destination .entry))) .memory ⌝ }
 {
     let made = BufferPool::new(pool, overflow);
@@ -59,5 +60,6 @@ pub extern "C" fn pool_bench_rounds(
         p = round(p, pool, overflow, destination, len);
         left -= 1;
     }
-    p.given
+    let given = p.given;
+    given[0]
 }

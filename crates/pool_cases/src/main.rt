@@ -124,17 +124,19 @@ fn number_at(file: &[u8], at: usize) -> u64
 struct ListEvent {
     kind: u64,
     value: u64,
+    caller: u64,
     serial: u64,
     number: u64,
 }
 
-// The event of 16 bytes at `at`: kind, value, two bytes that are not read, serial, and a number of eight bytes. Far past the file's end
-// all of it is 0.
+// The event of 16 bytes at `at`: kind, value, caller, a byte that is not read, serial, and a number of eight bytes. Far past the
+// file's end all of it is 0.
 fn event_at(file: &[u8], at: usize) -> ListEvent {
     if 100_000_000 < at {
         return ListEvent {
             kind: 0,
             value: 0,
+            caller: 0,
             serial: 0,
             number: 0,
         };
@@ -142,6 +144,7 @@ fn event_at(file: &[u8], at: usize) -> ListEvent {
     ListEvent {
         kind: byte_at(file, at),
         value: byte_at(file, at + 1),
+        caller: byte_at(file, at + 2),
         serial: number_at(file, at + 4),
         number: number_at(file, at + 8) + 4294967296 * number_at(file, at + 12),
     }
@@ -181,6 +184,7 @@ fn entry(p: BufferPool, slot: usize) -> Handle {
     let starts = p.starts;
     let lengths = p.lengths;
     let serials = p.serials;
+    let callers = p.callers;
     if slot < 1 {
         return no_handle();
     }
@@ -192,6 +196,7 @@ fn entry(p: BufferPool, slot: usize) -> Handle {
         start: starts[slot - 1],
         length: lengths[slot - 1],
         serial: serials[slot - 1],
+        caller: callers[slot - 1],
     }
 }
 
@@ -202,15 +207,24 @@ fn no_handle() -> Handle {
         start: 0,
         length: 0,
         serial: 0,
+        caller: 0,
     }
 }
 
-// The handle of the live slice with this serial; one that names no slice where there is none.
-fn handle_of(p: BufferPool, pool: &[u8], overflow: &[u8], serial: u64) -> Handle {
+// Has the handle this caller and this serial?
+fn bears(h: Handle, caller: u64, serial: u64) -> bool {
+    if h.caller as u64 != caller {
+        return false;
+    }
+    h.serial as u64 == serial
+}
+
+// The handle of the live slice with this caller and serial; one that names no slice where there is none.
+fn handle_of(p: BufferPool, pool: &[u8], overflow: &[u8], caller: u64, serial: u64) -> Handle {
     let mut slot = 1usize;
     while slot <= BufferPool::POOL_CAPACITY {
         let h = entry(p, slot);
-        if h.serial as u64 == serial {
+        if bears(h, caller, serial) {
             if p.slice_number(pool, overflow, h) == 0 {
                 return h;
             }
@@ -352,9 +366,9 @@ fn written(p: BufferPool, start: u64, length: u64) -> Ran {
     }
 }
 
-// Release by serial: the line tells the slice's place.
-fn release(p: BufferPool, pool: &[u8], overflow: &[u8], serial: u64) -> Ran {
-    let h = handle_of(p, pool, overflow, serial);
+// Release by the event's caller and serial: the line tells the slice's place.
+fn release(p: BufferPool, pool: &[u8], overflow: &[u8], e: ListEvent) -> Ran {
+    let h = handle_of(p, pool, overflow, e.caller, e.serial);
     let c = p.release(pool, overflow, h);
     let q = c.pool;
     let number = p.slice_number(pool, overflow, h);
@@ -378,17 +392,17 @@ fn shorter(n: usize, length: u64) -> usize
     n
 }
 
-// Take with the first `length` bytes of the destination, or with all where it is shorter. The line shows a copied frame of at most 64
-// bytes.
+// Take by the event's caller with as many bytes of the destination as the event says, or with all where it is shorter. The line shows
+// a copied frame of at most 64 bytes.
 fn take(
     p: BufferPool,
     pool: &[u8],
     overflow: &mut [u8],
     destination: &mut [u8],
-    length: u64,
+    e: ListEvent,
 ) -> Ran {
-    let n = shorter(destination.len(), length);
-    let c = p.take(pool, overflow, &mut destination[..n]);
+    let n = shorter(destination.len(), e.number);
+    let c = p.take(pool, overflow, e.caller, &mut destination[..n]);
     let answer = c.answer;
     let copied = answer.copied();
     if copied <= 64 {
@@ -397,9 +411,9 @@ fn take(
     called(c, 0)
 }
 
-// A write through the view of the slice with the event's serial; no write where none is live.
+// A write through the view of the slice with the event's caller and serial; no write where none is live.
 fn write_slice(p: BufferPool, pool: &mut [u8], overflow: &[u8], e: ListEvent) -> Ran {
-    let h = handle_of(p, pool, overflow, e.serial);
+    let h = handle_of(p, pool, overflow, e.caller, e.serial);
     if p.slice_number(pool, overflow, h) != 0 {
         return written(p, 0, 0);
     }
@@ -438,13 +452,13 @@ fn run_event(
         return called(p.commit(pool, overflow, e.number), 0);
     }
     if e.kind == 3 {
-        return take(p, pool, overflow, destination, e.number);
+        return take(p, pool, overflow, destination, e);
     }
     if e.kind == 4 {
         return called(p.truncate(pool, overflow, e.number), 0);
     }
     if e.kind == 5 {
-        return release(p, pool, overflow, e.serial);
+        return release(p, pool, overflow, e);
     }
     if e.kind == 6 {
         return write_reservation(p, pool, overflow, e);

@@ -173,7 +173,7 @@ module _ (r : BufferPool) (m : Memories) (d : List ℕ) (e : Event) (h : Handle)
     call-commit k o = rw (ne-eqb (e .kind) 1 a, eq-eqb (e .kind) 2 k, ← o) refl
 
     module _ (b : e .kind ≡ 2 → ⊥) where
-      pub call-take : e .kind ≡ 3 → (f : List ℕ) → outcome c n f ≡ calls.take 8 r m d → outcome c n f ≡ callOf r m d e h
+      pub call-take : e .kind ≡ 3 → (f : List ℕ) → outcome c n f ≡ calls.take 8 r m (e .caller) d → outcome c n f ≡ callOf r m d e h
       unfolding callOf
       call-take k f o = rw (ne-eqb (e .kind) 1 a, ne-eqb (e .kind) 2 b, eq-eqb (e .kind) 3 k) o
 
@@ -205,7 +205,7 @@ between bytes a k = let z : a + k - a ≡ k = omega arith in rw z refl
 
 -- with the trace bytes filled in, the call made, the counts and the line
 pub step-as : (bytes : List ℕ) (s : State) (m o : Memories) (d f : List ℕ) (e : Event) (k : ℕ) (h : Handle) (c : Called) (l : Step)
-    → k ≡ filling (s .pool) e (length bytes - s .next) → h ≡ handleOf (s .pool) (e .number)
+    → k ≡ filling (s .pool) e (length bytes - s .next) → h ≡ handleOf (s .pool) (e .caller) (e .number)
     → outcome c o f ≡ callOf (s .pool) (filled (s .pool) (take (s .next + k - s .next) (drop (s .next) bytes)) m) d e h
     → l ≡ stepOf s e h (s .next + k) c
     → stepped l o f ≡ step bytes (running s m d) e

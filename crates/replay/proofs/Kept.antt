@@ -41,7 +41,7 @@ module _ (r : BufferPool) (m : Memories) (P : Called → Type 0) (one : P (refus
       (λ t. pick-cases (λ (x : Outcome). P (x .call)) (misfit r m) (λ u. two) (λ u. h))
 
   pub call-by-steps : (d : List ℕ) (x : Event) (h : Handle) → ((n : ℕ) → P (reserveStep 8 r n)) → ((n : ℕ) → P (commitStep r n))
-      → ((n : ℕ) → P (truncateStep r n)) → ((n : ℕ) → P (takeStep 8 r n)) → P (releaseStep 8 r h) → P (callOf r m d x h .call)
+      → ((n : ℕ) → P (truncateStep r n)) → ((n : ℕ) → P (takeStep 8 r (x .caller) n)) → P (releaseStep 8 r h) → P (callOf r m d x h .call)
   unfolding callOf calls.reserve calls.commit calls.truncate calls.take copiedOut calls.release
   call-by-steps d x h reserve commit truncate take release =
       pick-cases (λ (o : Outcome). P (o .call)) (eqb (x .kind) 1) (λ t. guarded-by [] _ (reserve (x .number)))
@@ -53,7 +53,7 @@ module _ (r : BufferPool) (m : Memories) (P : Called → Type 0) (one : P (refus
 call-sound : (r : BufferPool) (m : Memories) (d : List ℕ) (x : Event) (h : Handle) → sound 8 r ≡ true → sound 8 (callOf r m d x h .call .pool) ≡ true
 call-sound r m d x h e =
     call-by-steps r m (λ (c : Called). sound 8 (c .pool) ≡ true) e e d x h (λ n. sound-kept 8 r (kept.Reserve n) e)
-    (λ n. sound-kept 8 r (kept.Commit n) e) (λ n. sound-kept 8 r (kept.Truncate n) e) (λ n. sound-kept 8 r (kept.Take n) e)
+    (λ n. sound-kept 8 r (kept.Commit n) e) (λ n. sound-kept 8 r (kept.Truncate n) e) (λ n. sound-kept 8 r (kept.Take (x .caller) n) e)
     (sound-kept 8 r (kept.Release h) e)
 
 -- the record that an outcome leaves is sound
@@ -105,7 +105,7 @@ counted-within n t v w = (omega (arith, w .0), omega (arith, w .1), omega (arith
 module _ (bytes : List ℕ) (s : Running) (e : Event) where
   pub step-sound : sound 8 (s .state .pool) ≡ true → sound 8 (step bytes s e .step .state .pool) ≡ true
   unfolding step stepOf
-  step-sound h = call-sound (s .state .pool) _ (s .destination) e (handleOf (s .state .pool) (e .number)) h
+  step-sound h = call-sound (s .state .pool) _ (s .destination) e (handleOf (s .state .pool) (e .caller) (e .number)) h
 
   pub step-starts : sound 8 (s .state .pool) ≡ true → Starting byteLimit (step bytes s e .step .shown .frame)
   unfolding step stepOf shownOf

@@ -1,6 +1,6 @@
 -- No listing is longer than `listingLimit`. A line is as long as its fields together, and a number below 10 ^ k has at most k digits;
--- the numbers that a line shows are small (ShownSmall.antt), an accepted file has at most `eventLimit` events, and a refused file's
--- one line is short. Assumes nothing.
+-- the numbers that a line shows are small (ShownSmall.antt), an accepted file has at most `eventLimit` events, whose callers are at
+-- most 3, and a refused file's one line is short. Assumes nothing.
 use mathlib.Core.Path.{_≡_, refl}
 use mathlib.Core.Bool.{Bool, true, false, cond}
 use mathlib.Core.List.{List, [], _∷_, _++_}
@@ -18,7 +18,7 @@ use Rattle.trace.specs.declared.Answer as trace
 use Rattle.trace.specs.declared.Answer.the-variants.{Trace, BadHeader, BadEvent}
 use Rattle.trace.specs.Trace.{sizeLimit, eventCount, reading}
 use Rattle.trace.specs.Content.{Content, content}
-use Rattle.trace.proofs.Accepted.{accepted-use, headed-use}
+use Rattle.trace.proofs.Accepted.{Callers, accepted-use, headed-use, good-callers}
 use Rattle.trace.proofs.ReadLaws.{length-events}
 use Rattle.io.specs.Counts.{Counts}
 use Rattle.io.proofs.Counting.{counts}
@@ -89,39 +89,41 @@ last-length t r w S =
 
 -- ---- The run
 
-lines-length : (bytes : List ℕ) (events : List Event) (s : Running) (i : ℕ) → i + length events ≤ eventLimit → Small (s .state .pool)
-    → Within i (s .state .tally) → length (lines bytes s i events) ≤ length events * lineLimit + lastLimit
+lines-length : (bytes : List ℕ) (events : List Event) → Callers events → (s : Running) (i : ℕ) → i + length events ≤ eventLimit
+    → Small (s .state .pool) → Within i (s .state .tally)
+    → length (lines bytes s i events) ≤ length events * lineLimit + lastLimit
 unfolding lines
-lines-length bytes [] s i h S w =
+lines-length bytes [] c s i h S w =
     omega (arith, last-length (s .state .tally) (s .state .pool) (omega arith, omega arith, omega arith, w .3) S)
-lines-length bytes (e ∷ rest) s i h S w =
+lines-length bytes (e ∷ rest) c s i h S w =
     simp length-append
     (omega (
       arith,
-      line-length (suc i) (step bytes s e .step .shown) (omega arith) (step-narrow bytes s e S),
-      lines-length bytes rest (left (step bytes s e)) (suc i) (omega arith) (step-small bytes s e S) (rw add-one at (step-within bytes s e i w)),
+      line-length (suc i) (step bytes s e .step .shown) (omega arith) (step-narrow bytes s e S (c 0)),
+      lines-length bytes rest (λ j. c (suc j)) (left (step bytes s e)) (suc i) (omega arith) (step-small bytes s e S (c 0)) (rw add-one at (step-within bytes s e i w)),
     ))
 
 run-length : (m : Memories) (d : List ℕ) (c : Content) → length (m .pool) ≤ sizeLimit → length (m .overflow) ≤ sizeLimit
-    → length (c .events) ≤ eventLimit → length (listingOn m d c) ≤ listingLimit
+    → length (c .events) ≤ eventLimit → Callers (c .events) → length (listingOn m d c) ≤ listingLimit
 unfolding listingOn begunOn
-run-length m d c h k l =
+run-length m d c h k l callers =
     simp length-append
     (omega (
       arith,
       first-length (length (m .pool)) (length (m .overflow)) h k,
-      lines-length (c .bytes) (c .events) (begunOn m d) 0 (omega arith) (small-new m h k) (omega arith, omega arith, omega arith, omega arith),
+      lines-length (c .bytes) (c .events) callers (begunOn m d) 0 (omega arith) (small-new m h k) (omega arith, omega arith, omega arith, omega arith),
     ))
 
 -- ---- Every file
 
--- an accepted file holds sizes within their limit, and at most so many events
+-- an accepted file holds sizes within their limit, at most so many events, and no caller above 3
 accepted-length : (file : List ℕ) (h : Header) → reading file ≡ Trace h → length (listingOf (content file)) ≤ listingLimit
 unfolding listingOf content
 accepted-length file h e =
-    let H = headed-use file (accepted-use file h e .0) in
+    let A = accepted-use file h e in
+    let H = headed-use file (A .0) in
     run-length _ _ (content file) (rw length-replicate (H .capacity-within)) (rw length-replicate (H .overflow-within))
-    (omega (arith, length-events file 0 (eventCount file), H .bytes-next, H .bytes-last, H .within))
+    (omega (arith, length-events file 0 (eventCount file), H .bytes-next, H .bytes-last, H .within)) (good-callers file 0 (eventCount file) (A .1))
 
 -- the listing of every file fits an output of this length
 pub listing-fits : (file : List ℕ) → length (listing file) ≤ listingLimit

@@ -8,7 +8,7 @@ use mathlib.Core.List.{List}
 use Prim.Native.Nat.{ℕ, zero, suc, _+_, _-_, _≤_, _<_, min}
 use native.Mathlib.Nat.{le-refl, div-le-of-le-mul}
 use native.Mathlib.Omega.{arith}
-use borrow.Author.Tests.{ne-eqb}
+use borrow.Author.Tests.{ne-eqb, lt-leb}
 use lib.Dec.{leb, ltb, eqb}
 use lib.ListN.{length}
 use Rattle.laws.specs.Tests.{pick}
@@ -21,13 +21,13 @@ use Rattle.buffer_pool.specs.declared.buffer_pool.PoolMode.{PoolMode}
 use Rattle.buffer_pool.specs.declared.buffer_pool.PoolMode.the-variants.{Back, Front, Alloc}
 use Rattle.buffer_pool.specs.declared.buffer_pool.Answer.the-variants.{Done, Taken, Copied, Refused}
 use Rattle.buffer_pool.specs.declared.buffer_pool.Called.{Called}
-use Rattle.buffer_pool.specs.Record.{slotCount, byteLimit, startAt, after}
+use Rattle.buffer_pool.specs.Record.{slotCount, byteLimit, callerCount, startAt, after}
 use Rattle.buffer_pool.specs.Values.{noHandle, Values, values}
 use Rattle.buffer_pool.specs.Moves.{Memories}
 use Rattle.buffer_pool.specs.Placing.{place, tooLong}
 use Rattle.buffer_pool.specs.Soundness.{sound}
 use Rattle.buffer_pool.specs.Sound.{Held, Slots}
-use Rattle.buffer_pool.specs.Steps.{refused, frame, frameOf, reserveOn, reserveStep, resized, reframed, commitStep, truncateStep, mostSerials, nextHandle, takeOn, takeStep, names, releaseStep}
+use Rattle.buffer_pool.specs.Steps.{refused, frame, frameOf, reserveOn, reserveStep, resized, reframed, commitStep, truncateStep, mostSerials, givenTo, nextHandle, takeOn, takeStep, names, releaseStep}
 use Rattle.buffer_pool.specs.Calls.{Outcome, new}
 use Rattle.buffer_pool.proofs.BoundLaws.{end-some}
 use Rattle.buffer_pool.proofs.Ranges.{Inside, bytesFor}
@@ -35,7 +35,7 @@ use Rattle.buffer_pool.proofs.Soundness.{sound-use}
 use Rattle.buffer_pool.proofs.SoundKept as kept
 use Rattle.buffer_pool.proofs.SoundKept.{step-sizes, sound-kept, sound-inside}
 use Rattle.trace.specs.declared.Event.{Event}
-use Rattle.trace.specs.Trace.{sizeLimit, takeKind, releaseKind}
+use Rattle.trace.specs.Trace.{sizeLimit, takeKind, releaseKind, mostCaller}
 use Rattle.replay.specs.declared.event.Tally.{Tally}
 use Rattle.replay.specs.declared.event.Extent.{Extent}
 use Rattle.replay.specs.declared.event.Shown.{Shown}
@@ -136,22 +136,24 @@ module _ (r : BufferPool) (S : Small r) where
   unfolding takeExtent
   copied-shows n h = (omega arith, near (omega arith), near (omega (arith, h)))
 
-  pooled-shows : r .«raw_offset» + r .«raw_len» ≤ sizeLimit → Shows (values (Taken (nextHandle r)))
+  pooled-shows : (caller : ℕ) → r .«raw_offset» + r .«raw_len» ≤ sizeLimit → Shows (values (Taken (nextHandle r caller)))
   unfolding takeExtent
-  pooled-shows h = (omega arith, near (omega arith), rw (ne-eqb (suc (r .used)) 0 (λ z. omega (arith, z))) (near h))
+  pooled-shows caller h = (omega arith, near (omega arith), rw (ne-eqb (suc (r .used)) 0 (λ z. omega (arith, z))) (near h))
 
-  take-shows : (n : ℕ) → Shows (values (takeStep 8 r n .answer))
+  -- the refusal of a caller above 3 has two digits, and an accepted file has no such caller
+  take-shows : (caller n : ℕ) → caller ≤ mostCaller → Shows (values (takeStep 8 r caller n .answer))
   unfolding takeStep takeOn
-  take-shows n =
-      go (eqb (frame r .length) 0) (ltb n (frame r .length)) (leb mostSerials (r .given)) (r .mode) (omega (arith, gathered-within r S))
+  take-shows caller n l =
+      rw (lt-leb callerCount caller (omega arith))
+      (go (eqb (frame r .length) 0) (ltb n (frame r .length)) (leb mostSerials (givenTo r caller)) (r .mode) (omega (arith, gathered-within r S)))
     where
       go : (z long spent : Bool) (mode : PoolMode) → frameOf mode r .start + frameOf mode r .length ≤ sizeLimit
-          → Shows (values (takeOn z long spent mode 8 r .answer))
+          → Shows (values (takeOn false z long spent mode 8 caller r .answer))
       go true long spent mode g = copied-shows 0 (omega arith)
       go false long true Back g = refused-shows 8 (omega arith)
-      go false long false Back g = pooled-shows g
+      go false long false Back g = pooled-shows caller g
       go false long true (Front f) g = refused-shows 8 (omega arith)
-      go false long false (Front f) g = pooled-shows g
+      go false long false (Front f) g = pooled-shows caller g
       go false true spent Alloc g = refused-shows 6 (omega arith)
       go false false spent Alloc g = copied-shows (r .cursor) (omega arith)
 
@@ -165,33 +167,36 @@ module _ (r : BufferPool) (S : Small r) where
   abbrev Good : Called → Type 0
   Good c = Small (c .pool) × Shows (values (c .answer))
 
-  call-good : (m : Memories) (d : List ℕ) (x : Event) (h : Handle) → Good (callOf r m d x h .call)
-  call-good m d x h =
+  call-good : (m : Memories) (d : List ℕ) (x : Event) (h : Handle) → x .caller ≤ mostCaller → Good (callOf r m d x h .call)
+  call-good m d x h l =
       call-by-steps r m Good (S, refused-shows 1 (omega arith)) (S, refused-shows 2 (omega arith)) d x h
       (λ n. (small-kept r (kept.Reserve n) S, reserve-shows n)) (λ n. (small-kept r (kept.Commit n) S, commit-shows n))
-      (λ n. (small-kept r (kept.Truncate n) S, truncate-shows n)) (λ n. (small-kept r (kept.Take n) S, take-shows n))
+      (λ n. (small-kept r (kept.Truncate n) S, truncate-shows n)) (λ n. (small-kept r (kept.Take (x .caller) n) S, take-shows (x .caller) n l))
       (small-kept r (kept.Release h) S, release-shows h)
 
-  -- the handle that a serial gives is of a live slot, which lies in the pool, or of none
-  slot-near : (p serial : ℕ) → (p ≡ 0) ⊎ Held 8 (r .live) p → Near (extent (handleAt r serial p .start) (handleAt r serial p .length))
+  -- the handle that a caller and a serial give is of a live slot, which lies in the pool, or of none
+  slot-near : (caller serial p : ℕ) → (p ≡ 0) ⊎ Held 8 (r .live) p
+      → Near (extent (handleAt r caller serial p .start) (handleAt r caller serial p .length))
   unfolding handleAt
-  slot-near p serial (inl z) = rw z (omega arith, omega arith)
-  slot-near p serial (inr H) =
+  slot-near caller serial p (inl z) = rw z (omega arith, omega arith)
+  slot-near caller serial p (inr H) =
       let some : p ≡ 0 → ⊥ = λ z. omega (arith, z, H .one) in
       let end = end-some (r .starts) (r .lengths) p some (startAt (r .starts) p) (startAt (r .lengths) p) refl refl in
       rw (ne-eqb p 0 some) (near (omega (arith, end, sound-inside 8 r (S .is-sound) .slices p H, S .capacity-within)))
 
-  handle-near : (serial : ℕ) → Near (extent (handleOf r serial .start) (handleOf r serial .length))
+  handle-near : (caller serial : ℕ) → Near (extent (handleOf r caller serial .start) (handleOf r caller serial .length))
   unfolding handleOf slotOf
-  handle-near serial = slot-near _ serial (slot-held (r .live) (r .serials) serial slotCount 1 (omega arith) (omega arith))
+  handle-near caller serial =
+      slot-near caller serial _ (slot-held (r .live) (r .callers) (r .serials) caller serial slotCount 1 (omega arith) (omega arith))
 
   -- what a line shows
-  extent-near : (kind serial : ℕ) (v : Values) → Shows v → Near (extentOf kind (handleOf r serial) v)
+  extent-near : (e : Event) (v : Values) → Shows v → Near (extentOf (e .kind) (handleOf r (e .caller) (e .number)) v)
   unfolding extentOf releaseExtent
-  extent-near kind serial v s =
-      pick-cases Near (eqb kind takeKind) (λ t. s .2)
-      (λ t. pick-cases Near (eqb kind releaseKind)
-      (λ u. pick-cases Near (eqb (v .number) 0) {a = extent (handleOf r serial .start) (handleOf r serial .length)} {b = extent 0 0} (λ w. handle-near serial) (λ w. (omega arith, omega arith)))
+  extent-near e v s =
+      let h = handleOf r (e .caller) (e .number) in
+      pick-cases Near (eqb (e .kind) takeKind) (λ t. s .2)
+      (λ t. pick-cases Near (eqb (e .kind) releaseKind)
+      (λ u. pick-cases Near (eqb (v .number) 0) {a = extent (h .start) (h .length)} {b = extent 0 0} (λ w. handle-near (e .caller) (e .number)) (λ w. (omega arith, omega arith)))
       (λ u. s .1))
 
 -- ---- The line of an event
@@ -203,16 +208,16 @@ pub record Narrow (s : Shown) : Type 0 where
   pub length-within : s .place .length ≤ sizeLimit
   pub frame-within : Starting sizeLimit (s .frame)
 
-module _ (bytes : List ℕ) (s : Running) (e : Event) (S : Small (s .state .pool)) where
+module _ (bytes : List ℕ) (s : Running) (e : Event) (S : Small (s .state .pool)) (l : e .caller ≤ mostCaller) where
   abbrev r : BufferPool
   r = s .state .pool
 
   abbrev c : Called
   c = callOf r (filled r (part bytes (s .state .next) (filling r e (length bytes - s .state .next))) (s .memory)) (s .destination) e
-      (handleOf r (e .number)) .call
+      (handleOf r (e .caller) (e .number)) .call
 
   good : Good r S c
-  good = call-good r S _ (s .destination) e (handleOf r (e .number))
+  good = call-good r S _ (s .destination) e (handleOf r (e .caller) (e .number)) l
 
   pub step-small : Small (step bytes s e .step .state .pool)
   unfolding step stepOf
@@ -221,7 +226,7 @@ module _ (bytes : List ℕ) (s : Running) (e : Event) (S : Small (s .state .pool
   pub step-narrow : Narrow (step bytes s e .step .shown)
   unfolding step stepOf shownOf
   step-narrow =
-      let x = extent-near r S (e .kind) (e .number) (values (c .answer)) (good .1) in
+      let x = extent-near r S e (values (c .answer)) (good .1) in
       record {
         refusal-digit = good .1 .0;
         start-within = x .0;

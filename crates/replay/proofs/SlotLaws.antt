@@ -1,12 +1,12 @@
 -- The slots that the loops of slots.rt have passed, and what they know where they return. Assumes nothing.
 use mathlib.Core.Path.{_≡_, refl, sym}
-use mathlib.Core.Bool.{Bool, true, false, not, _&&_}
+use mathlib.Core.Bool.{Bool, true, false, not}
 use mathlib.Core.List.{List}
 use mathlib.Core.Logic.{_⊎_, inl, inr}
 use Prim.Native.Nat.{ℕ, zero, suc, _+_, _-_, _≤_, _<_}
 use native.Mathlib.Numerals.{add-one}
 use native.Mathlib.Omega.{arith}
-use borrow.Author.Tests.{ne-eqb}
+use borrow.Author.Tests.{eq-eqb, ne-eqb}
 use lib.Dec.{eqb}
 use lib.ListN.{getD}
 use Rattle.laws.specs.Tests.{pick}
@@ -17,53 +17,65 @@ use Rattle.buffer_pool.specs.Record.{startAt}
 use Rattle.buffer_pool.specs.Sound.{Held}
 use Rattle.replay.specs.Slots.{bears, slotFrom, slotOf, handleAt, handleOf, heldAt, heldFrom, held}
 
--- ---- A serial's slot
+-- ---- The slot of a caller and a serial
 
-module _ (live : ℕ) (serials : List ℕ) (serial p : ℕ) (l : Bool) (e : l ≡ liveAt 8 live p) where
-  pub bears-dead : not l ≡ true → false ≡ bears live serials serial p
-  unfolding bears
-  bears-dead h = rw (← e, not-true l h)
+module _ (live : ℕ) (callers serials : List ℕ) (caller serial : ℕ) where
+  -- is slot p named by them?
+  abbrev named : ℕ → Bool
+  named = bears live callers serials caller serial
 
-  pub bears-live : not l ≡ false → eqb (getD serials (p - 1) 0) serial ≡ bears live serials serial p
-  unfolding bears
-  bears-live h = rw (← e, not-false l h)
+  -- the first such slot of the n from slot p on
+  abbrev first : ℕ → ℕ → ℕ
+  first = slotFrom live callers serials caller serial
 
-module _ (live : ℕ) (serials : List ℕ) (serial p : ℕ) (h : 1 ≤ p) (k : p ≤ 8) (b : Bool) (e : b ≡ bears live serials serial p)
-    (i : slotFrom live serials serial 1 8 ≡ slotFrom live serials serial p (9 - p)) where
-  step-slot : slotFrom live serials serial p (9 - p) ≡ pick b p (slotFrom live serials serial (suc p) (8 - p))
-  unfolding slotFrom
-  step-slot = let z : 9 - p ≡ suc (8 - p) = omega arith in rw (z, ← e) refl
+  module _ (p : ℕ) (l : Bool) (e : l ≡ liveAt 8 live p) where
+    pub bears-dead : not l ≡ true → false ≡ named p
+    unfolding bears
+    bears-dead h = rw (← e, not-true l h)
 
-  pub slot-here : b ≡ true → (r : BufferPool) → r .live ≡ live → r .serials ≡ serials → p ≡ slotOf r serial
-  unfolding slotOf
-  slot-here t r u v = rw (u, v, i, step-slot, t) refl
+    module _ (h : not l ≡ false) where
+      pub bears-other : (getD callers (p - 1) 0 ≡ caller → ⊥) → false ≡ named p
+      unfolding bears
+      bears-other n = rw (← e, not-false l h, ne-eqb (startAt callers p) caller n)
 
-  pub slot-more : b ≡ false → slotFrom live serials serial 1 8 ≡ slotFrom live serials serial (p + 1) (9 - (p + 1))
-  slot-more f = let z : 9 - (p + 1) ≡ 8 - p = omega arith in rw (i, step-slot, f, z, add-one p) refl
+      pub bears-own : getD callers (p - 1) 0 ≡ caller → eqb (getD serials (p - 1) 0) serial ≡ named p
+      unfolding bears
+      bears-own c = rw (← e, not-false l h, eq-eqb (startAt callers p) caller c)
 
-pub slot-none : (live : ℕ) (serials : List ℕ) (serial p : ℕ) → 8 < p → p ≤ 9
-    → slotFrom live serials serial 1 8 ≡ slotFrom live serials serial p (9 - p)
-    → (r : BufferPool) → r .live ≡ live → r .serials ≡ serials → 0 ≡ slotOf r serial
-unfolding slotOf slotFrom
-slot-none live serials serial p h k i r u v = let z : 9 - p ≡ 0 = omega arith in sym (rw (u, v, i, z) refl)
+  module _ (p : ℕ) (h : 1 ≤ p) (k : p ≤ 8) (b : Bool) (e : b ≡ named p) (i : first 1 8 ≡ first p (9 - p)) where
+    step-slot : first p (9 - p) ≡ pick b p (first (suc p) (8 - p))
+    unfolding slotFrom
+    step-slot = let z : 9 - p ≡ suc (8 - p) = omega arith in rw (z, ← e) refl
 
--- a serial's slot is live, or none
-pub slot-held : (live : ℕ) (serials : List ℕ) (serial n p : ℕ) → 1 ≤ p → p + n ≤ 9
-    → (slotFrom live serials serial p n ≡ 0) ⊎ Held 8 live (slotFrom live serials serial p n)
-unfolding slotFrom bears
-slot-held live serials serial zero p h k = inl refl
-slot-held live serials serial (suc n) p h k =
-    pick-cases (λ (q : ℕ). (q ≡ 0) ⊎ Held 8 live q) (liveAt 8 live p && eqb (startAt serials p) serial)
-    (λ t. inr (record { one = h; most = omega arith; here = both-true (liveAt 8 live p) _ t .0 }))
-    (λ t. slot-held live serials serial n (suc p) (omega arith) (omega arith))
+    pub slot-here : b ≡ true → (r : BufferPool) → r .live ≡ live → r .callers ≡ callers → r .serials ≡ serials → p ≡ slotOf r caller serial
+    unfolding slotOf
+    slot-here t r u v w = rw (u, v, w, i, step-slot, t) refl
 
-module _ (r : BufferPool) (serial p : ℕ) (e : p ≡ slotOf r serial) where
-  pub handle-none : p ≡ 0 → record { slot = 0; start = 0; length = 0; serial = serial } ≡ handleOf r serial
+    pub slot-more : b ≡ false → first 1 8 ≡ first (p + 1) (9 - (p + 1))
+    slot-more f = let z : 9 - (p + 1) ≡ 8 - p = omega arith in rw (i, step-slot, f, z, add-one p) refl
+
+  pub slot-none : (p : ℕ) → 8 < p → p ≤ 9 → first 1 8 ≡ first p (9 - p)
+      → (r : BufferPool) → r .live ≡ live → r .callers ≡ callers → r .serials ≡ serials → 0 ≡ slotOf r caller serial
+  unfolding slotOf slotFrom
+  slot-none p h k i r u v w = let z : 9 - p ≡ 0 = omega arith in sym (rw (u, v, w, i, z) refl)
+
+  -- that slot is live, or none
+  pub slot-held : (n p : ℕ) → 1 ≤ p → p + n ≤ 9 → (first p n ≡ 0) ⊎ Held 8 live (first p n)
+  unfolding slotFrom bears
+  slot-held zero p h k = inl refl
+  slot-held (suc n) p h k =
+      pick-cases (λ (q : ℕ). (q ≡ 0) ⊎ Held 8 live q) (named p)
+      (λ t. inr (record { one = h; most = omega arith; here = both-true (liveAt 8 live p) _ t .0 }))
+      (λ t. slot-held n (suc p) (omega arith) (omega arith))
+
+module _ (r : BufferPool) (caller serial p : ℕ) (e : p ≡ slotOf r caller serial) where
+  pub handle-none : p ≡ 0 → record { slot = 0; start = 0; length = 0; serial = serial; caller = caller } ≡ handleOf r caller serial
   unfolding handleOf handleAt
   handle-none z = rw (← e, z) refl
 
   pub handle-some : (p ≡ 0 → ⊥)
-      → record { slot = p; start = getD (r .starts) (p - 1) 0; length = getD (r .lengths) (p - 1) 0; serial = serial } ≡ handleOf r serial
+      → record { slot = p; start = getD (r .starts) (p - 1) 0; length = getD (r .lengths) (p - 1) 0; serial = serial; caller = caller }
+      ≡ handleOf r caller serial
   unfolding handleOf handleAt
   handle-some n = rw (← e, ne-eqb p 0 n) refl
 

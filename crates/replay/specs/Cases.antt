@@ -1,4 +1,4 @@
--- The listing of SPECIFICATION 12, byte for byte. proofs/Cases.antt has the theorem.
+-- The listing of SPECIFICATION 12, and a trace of two callers with its listing, byte for byte. proofs/Cases.antt has the theorems.
 use mathlib.Core.List.{List, [], _∷_}
 use Prim.Native.Nat.{ℕ}
 use Rattle.buffer_pool.specs.Computing as pool
@@ -39,6 +39,58 @@ printed =
     ∷ 49 ∷ 50 ∷ 32 ∷ 114 ∷ 32 ∷ 48 ∷ 32 ∷ 66 ∷ 32 ∷ 48 ∷ 48 ∷ 32 ∷ 48 ∷ 32 ∷ 49 ∷ 54 ∷ 32 ∷ 48 ∷ 10
     -- T 10 2 50 0
     ∷ 84 ∷ 32 ∷ 49 ∷ 48 ∷ 32 ∷ 50 ∷ 32 ∷ 53 ∷ 48 ∷ 32 ∷ 48 ∷ 10
+    ∷ []
+
+-- W-205, the trace of SPECIFICATION 9.9. Capacity 8, overflow 0, ten events, the events' place 24, no bytes, the bytes' place 104; then r 2, c 2, t by caller 0, r 3,
+-- c 3, t by caller 1, and releases of serial 1: of caller 1, of caller 2, of caller 1 again and of caller 0
+unfoldable pub twoCallers : List ℕ
+twoCallers =
+    8 ∷ 0 ∷ 0 ∷ 0
+    ∷ 0 ∷ 0 ∷ 0 ∷ 0
+    ∷ 10 ∷ 0 ∷ 0 ∷ 0
+    ∷ 24 ∷ 0 ∷ 0 ∷ 0
+    ∷ 0 ∷ 0 ∷ 0 ∷ 0
+    ∷ 104 ∷ 0 ∷ 0 ∷ 0
+    ∷ 1 ∷ 0 ∷ 0 ∷ 0 ∷ 2 ∷ 0 ∷ 0 ∷ 0
+    ∷ 2 ∷ 0 ∷ 0 ∷ 0 ∷ 2 ∷ 0 ∷ 0 ∷ 0
+    ∷ 3 ∷ 0 ∷ 0 ∷ 0 ∷ 0 ∷ 0 ∷ 0 ∷ 0
+    ∷ 1 ∷ 0 ∷ 0 ∷ 0 ∷ 3 ∷ 0 ∷ 0 ∷ 0
+    ∷ 2 ∷ 0 ∷ 0 ∷ 0 ∷ 3 ∷ 0 ∷ 0 ∷ 0
+    ∷ 3 ∷ 1 ∷ 0 ∷ 0 ∷ 0 ∷ 0 ∷ 0 ∷ 0
+    ∷ 5 ∷ 1 ∷ 0 ∷ 0 ∷ 1 ∷ 0 ∷ 0 ∷ 0
+    ∷ 5 ∷ 2 ∷ 0 ∷ 0 ∷ 1 ∷ 0 ∷ 0 ∷ 0
+    ∷ 5 ∷ 1 ∷ 0 ∷ 0 ∷ 1 ∷ 0 ∷ 0 ∷ 0
+    ∷ 5 ∷ 0 ∷ 0 ∷ 0 ∷ 1 ∷ 0 ∷ 0 ∷ 0
+    ∷ []
+
+-- both takes give serial 1: event 7 frees the second slice and not the first, of events 8 and 9 no live slice has both numbers, and
+-- event 10 frees the first
+unfoldable pub twoCallersPrinted : List ℕ
+twoCallersPrinted =
+    -- pool 8 overflow 0
+    112 ∷ 111 ∷ 111 ∷ 108 ∷ 32 ∷ 56 ∷ 32 ∷ 111 ∷ 118 ∷ 101 ∷ 114 ∷ 102 ∷ 108 ∷ 111 ∷ 119 ∷ 32 ∷ 48 ∷ 10
+    -- 1 r 0 B 00 0 2 0
+    ∷ 49 ∷ 32 ∷ 114 ∷ 32 ∷ 48 ∷ 32 ∷ 66 ∷ 32 ∷ 48 ∷ 48 ∷ 32 ∷ 48 ∷ 32 ∷ 50 ∷ 32 ∷ 48 ∷ 10
+    -- 2 c 0 B 00 0 2 0
+    ∷ 50 ∷ 32 ∷ 99 ∷ 32 ∷ 48 ∷ 32 ∷ 66 ∷ 32 ∷ 48 ∷ 48 ∷ 32 ∷ 48 ∷ 32 ∷ 50 ∷ 32 ∷ 48 ∷ 10
+    -- 3 t 0 B 80 0 2 0
+    ∷ 51 ∷ 32 ∷ 116 ∷ 32 ∷ 48 ∷ 32 ∷ 66 ∷ 32 ∷ 56 ∷ 48 ∷ 32 ∷ 48 ∷ 32 ∷ 50 ∷ 32 ∷ 48 ∷ 10
+    -- 4 r 0 B 80 2 3 0
+    ∷ 52 ∷ 32 ∷ 114 ∷ 32 ∷ 48 ∷ 32 ∷ 66 ∷ 32 ∷ 56 ∷ 48 ∷ 32 ∷ 50 ∷ 32 ∷ 51 ∷ 32 ∷ 48 ∷ 10
+    -- 5 c 0 B 80 2 3 0
+    ∷ 53 ∷ 32 ∷ 99 ∷ 32 ∷ 48 ∷ 32 ∷ 66 ∷ 32 ∷ 56 ∷ 48 ∷ 32 ∷ 50 ∷ 32 ∷ 51 ∷ 32 ∷ 48 ∷ 10
+    -- 6 t 0 B c0 2 3 0
+    ∷ 54 ∷ 32 ∷ 116 ∷ 32 ∷ 48 ∷ 32 ∷ 66 ∷ 32 ∷ 99 ∷ 48 ∷ 32 ∷ 50 ∷ 32 ∷ 51 ∷ 32 ∷ 48 ∷ 10
+    -- 7 d 0 B 80 2 3 0
+    ∷ 55 ∷ 32 ∷ 100 ∷ 32 ∷ 48 ∷ 32 ∷ 66 ∷ 32 ∷ 56 ∷ 48 ∷ 32 ∷ 50 ∷ 32 ∷ 51 ∷ 32 ∷ 48 ∷ 10
+    -- 8 d 7 B 80 0 0 0
+    ∷ 56 ∷ 32 ∷ 100 ∷ 32 ∷ 55 ∷ 32 ∷ 66 ∷ 32 ∷ 56 ∷ 48 ∷ 32 ∷ 48 ∷ 32 ∷ 48 ∷ 32 ∷ 48 ∷ 10
+    -- 9 d 7 B 80 0 0 0
+    ∷ 57 ∷ 32 ∷ 100 ∷ 32 ∷ 55 ∷ 32 ∷ 66 ∷ 32 ∷ 56 ∷ 48 ∷ 32 ∷ 48 ∷ 32 ∷ 48 ∷ 32 ∷ 48 ∷ 10
+    -- 10 d 0 B 00 0 2 0
+    ∷ 49 ∷ 48 ∷ 32 ∷ 100 ∷ 32 ∷ 48 ∷ 32 ∷ 66 ∷ 32 ∷ 48 ∷ 48 ∷ 32 ∷ 48 ∷ 32 ∷ 50 ∷ 32 ∷ 48 ∷ 10
+    -- T 8 2 0 0
+    ∷ 84 ∷ 32 ∷ 56 ∷ 32 ∷ 50 ∷ 32 ∷ 48 ∷ 32 ∷ 48 ∷ 10
     ∷ []
 
 -- opens what a listing unfolds to, for computing

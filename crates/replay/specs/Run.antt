@@ -142,12 +142,12 @@ filled r text m = filledAt (reservation r .memory) (reservation r .start) text m
 abbrev pub beside : List ℕ → Outcome → Outcome
 beside destination o = outcome (o .call) (o .memory) destination
 
--- the call that an event makes; a release takes the handle
+-- the call that an event makes; a take is by the event's caller, and a release takes the handle
 unfoldable pub callOf : BufferPool → Memories → List ℕ → Event → Handle → Outcome
 callOf r m destination e h =
     pick (eqb (e .kind) reserveKind) (beside destination (calls.reserve slotCount r m (e .number)))
     (pick (eqb (e .kind) commitKind) (beside destination (calls.commit slotCount r m (e .number)))
-    (pick (eqb (e .kind) takeKind) (calls.take slotCount r m destination)
+    (pick (eqb (e .kind) takeKind) (calls.take slotCount r m (e .caller) destination)
     (pick (eqb (e .kind) truncateKind) (beside destination (calls.truncate slotCount r m (e .number)))
     (beside destination (calls.release slotCount r m h)))))
 
@@ -186,7 +186,7 @@ step bytes s e =
     let r : BufferPool = s .state .pool in
     let next : ℕ = s .state .next in
     let k : ℕ = filling r e (length bytes - next) in
-    let h : Handle = handleOf r (e .number) in
+    let h : Handle = handleOf r (e .caller) (e .number) in
     let o : Outcome = callOf r (filled r (part bytes next k) (s .memory)) (s .destination) e h in
     stepped (stepOf (s .state) e h (next + k) (o .call)) (o .memory) (o .destination)
 

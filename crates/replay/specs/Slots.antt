@@ -1,4 +1,4 @@
--- What the run reads off the slots of the pool's record: the slice that a serial names, and the bytes held.
+-- What the run reads off the slots of the pool's record: the slice that a caller and a serial name, and the bytes held.
 use mathlib.Core.Bool.{Bool, _&&_}
 use mathlib.Core.List.{List}
 use Prim.Native.Nat.{ℕ, zero, suc, _+_}
@@ -9,30 +9,31 @@ use Rattle.buffer_pool.specs.declared.slice.Handle.{Handle}
 use Rattle.buffer_pool.specs.declared.buffer_pool.BufferPool.{BufferPool}
 use Rattle.buffer_pool.specs.Record.{slotCount, startAt}
 
--- ---- The slice of a serial
+-- ---- The slice of a caller and a serial
 
--- is slot p live, and has it this serial?
-unfoldable pub bears : ℕ → List ℕ → ℕ → ℕ → Bool
-bears live serials serial p = liveAt slotCount live p && eqb (startAt serials p) serial
+-- is slot p live, and has it this caller and this serial?
+unfoldable pub bears : ℕ → List ℕ → List ℕ → ℕ → ℕ → ℕ → Bool
+bears live callers serials caller serial p = liveAt slotCount live p && (eqb (startAt callers p) caller && eqb (startAt serials p) serial)
 
--- the first live slot with this serial of the n from slot p on, and 0 where none of them is one
-unfoldable pub slotFrom : ℕ → List ℕ → ℕ → ℕ → ℕ → ℕ
-slotFrom live serials serial p zero = 0
-slotFrom live serials serial p (suc n) = pick (bears live serials serial p) p (slotFrom live serials serial (suc p) n)
+-- the first such slot of the n from slot p on, and 0 where none of them is one
+unfoldable pub slotFrom : ℕ → List ℕ → List ℕ → ℕ → ℕ → ℕ → ℕ → ℕ
+slotFrom live callers serials caller serial p zero = 0
+slotFrom live callers serials caller serial p (suc n) =
+    pick (bears live callers serials caller serial p) p (slotFrom live callers serials caller serial (suc p) n)
 
-unfoldable pub slotOf : BufferPool → ℕ → ℕ
-slotOf r serial = slotFrom (r .live) (r .serials) serial 1 slotCount
+unfoldable pub slotOf : BufferPool → ℕ → ℕ → ℕ
+slotOf r caller serial = slotFrom (r .live) (r .callers) (r .serials) caller serial 1 slotCount
 
--- the handle of slot p
-unfoldable pub handleAt : BufferPool → ℕ → ℕ → Handle
-handleAt r serial p =
-    pick (eqb p 0) (record { slot = 0; start = 0; length = 0; serial = serial })
-    (record { slot = p; start = startAt (r .starts) p; length = startAt (r .lengths) p; serial = serial })
+-- the handle of slot p, with this caller and this serial
+unfoldable pub handleAt : BufferPool → ℕ → ℕ → ℕ → Handle
+handleAt r caller serial p =
+    pick (eqb p 0) (record { slot = 0; start = 0; length = 0; serial = serial; caller = caller })
+    (record { slot = p; start = startAt (r .starts) p; length = startAt (r .lengths) p; serial = serial; caller = caller })
 
--- 9.8: the handle of the live slice with this serial; where no live one has it, a handle of no slot, which a release refuses with
--- 7
-unfoldable pub handleOf : BufferPool → ℕ → Handle
-handleOf r serial = handleAt r serial (slotOf r serial)
+-- 9.8: "the handle of the live slot with that caller and serial; if no live slot has both", a handle of no slot with these two
+-- numbers, which a release refuses with 7
+unfoldable pub handleOf : BufferPool → ℕ → ℕ → Handle
+handleOf r caller serial = handleAt r caller serial (slotOf r caller serial)
 
 -- ---- Held bytes
 

@@ -294,7 +294,7 @@ fn fill(r: BufferPool, pool: &mut [u8], overflow: &mut [u8], text: &[u8])
     }
 }
 
-// The call of an event; a release takes the handle.
+// The call of an event; a take is by the event's caller, and a release takes the handle.
 fn call(
     r: BufferPool,
     pool: &mut [u8],
@@ -314,7 +314,7 @@ fn call(
         return r.commit(pool, overflow, n);
     }
     if kind == trace::TAKE {
-        return r.take(pool, overflow, destination);
+        return r.take(pool, overflow, e.caller as u64, destination);
     }
     if kind == trace::TRUNCATE {
         return r.truncate(pool, overflow, n);
@@ -374,7 +374,7 @@ pub(crate) fn run_event(
     let next = s.next;
     let k = filling(r, e, bytes.len() - next);
     let end = next + k;
-    let h = handle_of(r, e.number);
+    let h = handle_of(r, e.caller, e.number);
     let c = fill_and_call(r, pool, overflow, destination, &bytes[next..end], e, h);
     step_of(s, e, h, end, c)
 }

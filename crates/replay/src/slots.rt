@@ -1,4 +1,4 @@
-// What the run reads off the slots of the pool's record: the slice that a serial names, and the bytes held.
+// What the run reads off the slots of the pool's record: the slice that a caller and a serial name, and the bytes held.
 ghost use mathlib.Core.Path.{_≡_};
 ghost use Prim.Native.Nat.{_≤_, _<_, _^_};
 ghost use Rattle.laws.specs.Live.{slotMask, liveAt};
@@ -26,26 +26,38 @@ fn is_live(live: u8, p: u8) -> bool
     live & mask(p) != 0
 }
 
-// Is slot `p` live, and has it this serial?
-fn bears(live: u8, serials: [u32; BufferPool::POOL_CAPACITY], serial: u32, p: u8) -> bool
+// Is slot `p` live, and has it this caller and this serial?
+fn bears(
+    live: u8,
+    callers: [u8; BufferPool::POOL_CAPACITY],
+    serials: [u32; BufferPool::POOL_CAPACITY],
+    caller: u8,
+    serial: u32,
+    p: u8,
+) -> bool
     requires { ⌜ (1 ≤ p) × (p ≤ slotCount) ⌝ }
-    ensures { λ r. ⌜ r ≡ spec.bears live serials serial p ⌝ }
+    ensures { λ r. ⌜ r ≡ spec.bears live callers serials caller serial p ⌝ }
 {
     if !is_live(live, p) {
         return false;
     }
-    serials[p as usize - 1] == serial
+    let i = p as usize - 1;
+    if callers[i] != caller {
+        return false;
+    }
+    serials[i] == serial
 }
 
-// The first live slot with this serial, and 0 where no live one has it.
-fn slot_of(r: BufferPool, serial: u32) -> u8
-    ensures { λ p. ⌜ (p ≡ spec.slotOf r serial) × (p ≤ slotCount) ⌝ }
+// The first live slot with this caller and this serial, and 0 where no live one has both.
+fn slot_of(r: BufferPool, caller: u8, serial: u32) -> u8
+    ensures { λ p. ⌜ (p ≡ spec.slotOf r caller serial) × (p ≤ slotCount) ⌝ }
 {
     let live = r.live;
+    let callers = r.callers;
     let serials = r.serials;
     let mut p = 1;
     while p <= SLOTS {
-        if bears(live, serials, serial, p) {
+        if bears(live, callers, serials, caller, serial, p) {
             return p;
         }
         p += 1;
@@ -53,17 +65,18 @@ fn slot_of(r: BufferPool, serial: u32) -> u8
     0
 }
 
-// The handle of the live slice with this serial, and one of no slot where no live slice has it.
-pub(crate) fn handle_of(r: BufferPool, serial: u32) -> Handle
-    ensures { λ h. ⌜ h ≡ spec.handleOf r serial ⌝ }
+// The handle of the live slice with this caller and this serial, and one of no slot where no live slice has both.
+pub(crate) fn handle_of(r: BufferPool, caller: u8, serial: u32) -> Handle
+    ensures { λ h. ⌜ h ≡ spec.handleOf r caller serial ⌝ }
 {
-    let p = slot_of(r, serial);
+    let p = slot_of(r, caller, serial);
     if p == 0 {
         return Handle {
             slot: 0,
             start: 0,
             length: 0,
             serial: serial,
+            caller: caller,
         };
     }
     let i = p as usize - 1;
@@ -74,6 +87,7 @@ pub(crate) fn handle_of(r: BufferPool, serial: u32) -> Handle
         start: starts[i],
         length: lengths[i],
         serial: serial,
+        caller: caller,
     }
 }
 

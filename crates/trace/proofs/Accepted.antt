@@ -1,19 +1,37 @@
--- What is known of an accepted file: each clause of its header, that every event is good, and that the answer's counts are
--- those of its content. Assumes nothing.
+-- What is known of an accepted file: each clause of its header, that every event is good and no caller above 3, and that the
+-- answer's counts are those of its content. Besides, that caller 0 is right for every kind. Assumes nothing.
 use mathlib.Core.Path.{_≡_, refl, _∙_}
 use mathlib.Core.Bool.{Bool, true, false}
 use mathlib.Core.List.{List}
 use Prim.Native.Nat.{ℕ, zero, suc, _+_, _≤_}
 use native.Mathlib.Omega.{arith}
 use borrow.Author.Tests.{leb-true, eqb-true, le-leb, eq-eqb}
-use lib.ListN.{length, drop, length-drop}
+use lib.ListN.{length, getD, drop, length-drop}
 use Rattle.laws.specs.Tests.{pick}
-use Rattle.laws.proofs.Tests.{both-true, both, leb-and, eqb-and}
+use Rattle.laws.proofs.Tests.{both-true, both, leb-and, eqb-and, pick-cases}
 use Rattle.trace.specs.declared.Header.{Header}
+use Rattle.trace.specs.declared.Event.{Event}
 use Rattle.trace.specs.declared.Answer.the-variants.{Trace}
-use Rattle.trace.specs.Trace.{headerLength, sizeLimit, fileLimit, eventPlace, capacityOf, overflowOf, eventCount, eventOffset, byteCount, byteOffset, complete, sized, inOrder, ended, headed, headerOf, goodAt, firstBad, answerOn, reading}
-use Rattle.trace.specs.Content.{content, headerFor}
+use Rattle.trace.specs.Trace.{headerLength, sizeLimit, fileLimit, reserveKind, releaseKind, mostCaller, eventPlace, capacityOf, overflowOf, eventCount, eventOffset, byteCount, byteOffset, complete, sized, inOrder, ended, headed, headerOf, eventAt, fillerZero, hasCaller, callerRight, right, goodAt, firstBad, answerOn, reading}
+use Rattle.trace.specs.Content.{eventsFrom, content, noEvent, headerFor}
 use Rattle.trace.proofs.ReadLaws.{length-events}
+
+-- W-205, "Old traces read as caller 0": caller 0 is right for every kind
+pub caller-zero : (e : Event) → e .caller ≡ 0 → callerRight e ≡ true
+unfolding callerRight
+caller-zero e z = rw z (pick-cases (λ (t : Bool). t ≡ true) (hasCaller (e .kind)) (λ h. refl) (λ h. refl))
+
+-- a right event's caller is at most 3, whatever its kind
+right-caller : (e : Event) → right e ≡ true → e .caller ≤ mostCaller
+unfolding right callerRight
+right-caller e h =
+    let kind = leb-and (e .kind) releaseKind (leb-and reserveKind (e .kind) h .1) in
+    pick-cases (λ (t : Bool). t ≡ true → e .caller ≤ mostCaller) (hasCaller (e .kind)) (λ t. leb-true (e .caller) mostCaller)
+    (λ t z. omega (arith, eqb-true (e .caller) 0 z)) (both-true (callerRight e) _ (kind .1) .0)
+
+-- no event's caller is above 3
+abbrev pub Callers : List Event → Type 0
+Callers events = (i : ℕ) → getD events i noEvent .caller ≤ mostCaller
 
 -- the clauses of a right header
 pub record Headed (file : List ℕ) : Type 0 where
@@ -70,6 +88,13 @@ module _ (file : List ℕ) where
       go : (g : Bool) → goodAt file i ≡ g → pick g (firstBad file (suc i) n) (suc i) ≡ 0 → (goodAt file i ≡ true) × (firstBad file (suc i) n ≡ 0)
       go true p q = (p, q)
       go false p q = absurd (omega arith)
+
+  -- so no caller of theirs is above 3
+  pub good-callers : (i n : ℕ) → firstBad file i n ≡ 0 → Callers (eventsFrom file i n)
+  unfolding eventsFrom goodAt
+  good-callers i zero e j = omega arith
+  good-callers i (suc n) e zero = right-caller (eventAt file i) (both-true (fillerZero file i) _ (good-first i n e .0) .1)
+  good-callers i (suc n) e (suc j) = good-callers (suc i) n (good-first i n e .1) j
 
   -- an accepted file: its header is right, and no event is bad
   pub accepted-use : (h : Header) → reading file ≡ Trace h → (headed file ≡ true) × (firstBad file 0 (eventCount file) ≡ 0) × (headerOf file ≡ h)

@@ -1,17 +1,36 @@
 -- An event's test and the first bad event, from what the code knows where it returns. Assumes nothing.
 use mathlib.Core.Path.{_≡_, refl, sym, ap, _∙_}
-use mathlib.Core.Bool.{Bool, true, false, not}
+use mathlib.Core.Bool.{Bool, true, false, not, _&&_}
 use mathlib.Core.List.{List}
 use Prim.Native.Nat.{ℕ, suc, _+_, _-_, _≤_, _<_}
 use native.Mathlib.Omega.{arith}
 use native.Mathlib.Nat.{sub-zero}
 use native.Mathlib.Numerals.{add-one}
 use borrow.Author.Tests.{lt-leb, le-leb, eq-eqb, ne-eqb}
-use lib.Dec.{eqb}
+use lib.Dec.{leb, eqb}
 use lib.ListN.{getD}
+use Rattle.laws.specs.Tests.{implies}
 use Rattle.laws.proofs.Tests.{not-true, not-false}
 use Rattle.trace.specs.declared.Event.{Event}
-use Rattle.trace.specs.Trace.{eventPlace, eventAt, numberAt, fillerZero, right, goodAt, firstBad, reserveKind, takeKind, releaseKind}
+use Rattle.trace.specs.Trace.{eventPlace, eventAt, numberAt, fillerZero, hasCaller, callerRight, right, goodAt, firstBad, reserveKind, takeKind, releaseKind, mostCaller}
+
+module _ (kind : ℕ) where
+  pub take-calls : kind ≡ takeKind → true ≡ hasCaller kind
+  unfolding hasCaller
+  take-calls h = simp (eq-eqb kind takeKind h)
+
+  pub release-calls : (kind ≡ takeKind → ⊥) → eqb kind releaseKind ≡ hasCaller kind
+  unfolding hasCaller
+  release-calls h = simp (ne-eqb kind takeKind h)
+
+module _ (e : Event) (t : Bool) (p : t ≡ hasCaller (e .kind)) where
+  pub caller-within : t ≡ true → leb (e .caller) mostCaller ≡ callerRight e
+  unfolding callerRight
+  caller-within h = simp (← p, h)
+
+  pub caller-none : t ≡ false → eqb (e .caller) 0 ≡ callerRight e
+  unfolding callerRight
+  caller-none h = simp (← p, h)
 
 module _ (e : Event) where
   pub kind-low : e .kind < reserveKind → false ≡ right e
@@ -23,33 +42,34 @@ module _ (e : Event) where
     unfolding right
     kind-high h = simp (le-leb reserveKind (e .kind) low, lt-leb (e .kind) releaseKind h)
 
-    module _ (high : e .kind ≤ releaseKind) where
-      pub take-zero : e .kind ≡ takeKind → eqb (e .number) 0 ≡ right e
+    module _ (high : e .kind ≤ releaseKind) (c : Bool) (p : c ≡ callerRight e) where
+      in-range : right e ≡ (c && implies (eqb (e .kind) takeKind) (eqb (e .number) 0))
       unfolding right
-      take-zero h = simp (le-leb reserveKind (e .kind) low, le-leb (e .kind) releaseKind high, eq-eqb (e .kind) takeKind h)
+      in-range = simp (le-leb reserveKind (e .kind) low, le-leb (e .kind) releaseKind high, ← p)
 
-      pub other-kind : (e .kind ≡ takeKind → ⊥) → true ≡ right e
-      unfolding right
-      other-kind h = simp (le-leb reserveKind (e .kind) low, le-leb (e .kind) releaseKind high, ne-eqb (e .kind) takeKind h)
+      pub caller-wrong : not c ≡ true → false ≡ right e
+      caller-wrong h = rw (in-range, not-true c h) refl
+
+      module _ (good : not c ≡ false) where
+        pub take-zero : e .kind ≡ takeKind → eqb (e .number) 0 ≡ right e
+        take-zero h = rw (in-range, not-false c good, eq-eqb (e .kind) takeKind h) refl
+
+        pub other-kind : (e .kind ≡ takeKind → ⊥) → true ≡ right e
+        other-kind h = rw (in-range, not-false c good, ne-eqb (e .kind) takeKind h) refl
 
 module _ (file : List ℕ) (i at : ℕ) (p : at ≡ eventPlace i) where
-  pub event-there : (kind number : ℕ) → kind ≡ getD file at 0 → number ≡ numberAt file (at + 4)
-      → record { kind = kind; number = number } ≡ eventAt file i
-  event-there kind number k n = rw (k, n, p)
+  pub event-there : (kind caller number : ℕ) → kind ≡ getD file at 0 → caller ≡ getD file (at + 1) 0 → number ≡ numberAt file (at + 4)
+      → record { kind = kind; caller = caller; number = number } ≡ eventAt file i
+  event-there kind caller number k c n = rw (k, c, n, p)
 
-  module _ (a : ℕ) (e : a ≡ getD file (at + 1) 0) where
+  module _ (a : ℕ) (e : a ≡ getD file (at + 2) 0) where
     pub first-filler : (a ≡ 0 → ⊥) → false ≡ fillerZero file i
     unfolding fillerZero
     first-filler h = simp (← p, ← e, ne-eqb a 0 h)
 
-    module _ (z : a ≡ 0) (b : ℕ) (f : b ≡ getD file (at + 2) 0) where
-      pub second-filler : (b ≡ 0 → ⊥) → false ≡ fillerZero file i
-      unfolding fillerZero
-      second-filler h = simp (← p, ← e, eq-eqb a 0 z, ← f, ne-eqb b 0 h)
-
-      pub third-filler : b ≡ 0 → (d : ℕ) → d ≡ getD file (at + 3) 0 → eqb d 0 ≡ fillerZero file i
-      unfolding fillerZero
-      third-filler h d g = simp (← p, ← e, eq-eqb a 0 z, ← f, eq-eqb b 0 h, ← g)
+    pub last-filler : a ≡ 0 → (b : ℕ) → b ≡ getD file (at + 3) 0 → eqb b 0 ≡ fillerZero file i
+    unfolding fillerZero
+    last-filler h b f = simp (← p, ← e, eq-eqb a 0 h, ← f)
 
 module _ (file : List ℕ) (i : ℕ) (f : Bool) (e : f ≡ fillerZero file i) where
   pub filler-bad : not f ≡ true → false ≡ goodAt file i

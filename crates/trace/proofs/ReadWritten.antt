@@ -3,7 +3,7 @@ use mathlib.Core.Path.{_≡_, refl, sym, ap, ap₂, _∙_}
 use mathlib.Core.Bool.{true}
 use mathlib.Core.List.{List, [], _∷_, _++_}
 use Prim.Native.Nat.{ℕ, zero, suc, _+_, _*_, _≤_}
-use native.Mathlib.Numerals.{towards-suc}
+use native.Mathlib.Nat.{add-zero, add-suc}
 use native.Mathlib.Omega.{arith}
 use borrow.Author.Tests.{eqb-true, le-leb}
 use lib.ListN.{length, getD, drop, length-drop, take-append-drop}
@@ -21,6 +21,19 @@ use Rattle.trace.proofs.Accepted.{Headed, headed-use, header-same, good
 numbersFrom : List ℕ → ℕ → ℕ → List ℕ
 numbersFrom file at zero = []
 numbersFrom file at (suc n) = numberAt file at ∷ numbersFrom file (at + 4) n
+
+-- the n bytes of the file from place at + k on
+bytesFrom : List ℕ → ℕ → ℕ → ℕ → List ℕ
+bytesFrom file at k zero = []
+bytesFrom file at k (suc n) = getD file (at + k) 0 ∷ bytesFrom file at (suc k) n
+
+-- a part of the file, byte by byte
+part-bytes : (file : List ℕ) (at k n : ℕ) → at + k + n ≤ length file → part file (at + k) n ≡ bytesFrom file at k n
+unfolding bytesFrom
+part-bytes file at k zero h = part-none file (at + k)
+part-bytes file at k (suc n) h =
+    part-cons file (at + k) n (omega arith)
+    ∙ ap (λ (r : List ℕ). getD file (at + k) 0 ∷ r) (rw (add-suc at k) at (part-bytes file at (suc k) n (omega arith)))
 
 -- two lists one after the other, part by part
 join : {a b c d : List ℕ} → a ≡ b → c ≡ d → a ++ c ≡ b ++ d
@@ -42,24 +55,12 @@ module _ (file : List ℕ) (bytes : Bytes file) where
 
   -- a good event, written, is its eight bytes of the file
   event-written : (i : ℕ) → eventPlace i + 8 ≤ length file → goodAt file i ≡ true → eventBytes (eventAt file i) ≡ part file (eventPlace i) 8
-  unfolding eventBytes goodAt fillerZero
+  unfolding eventBytes goodAt fillerZero bytesFrom
   event-written i h g =
-      let zeros = both-true (fillerZero file i) _ g .0 in
-      let a = eqb-and (getD file (eventPlace i + 1) 0) 0 zeros in
-      let b = eqb-and (getD file (eventPlace i + 2) 0) 0 (a .1) in
-      let c = eqb-true (getD file (eventPlace i + 3) 0) 0 (b .1) in
-      sym
-      (part-add file (eventPlace i) 4 4
-      ∙ join
-      (part-cons file (eventPlace i) 3 (omega arith)
-      ∙ ap (λ (r : List ℕ). getD file (eventPlace i) 0 ∷ r)
-      (part-cons file (suc (eventPlace i)) 2 (omega arith)
-      ∙ ap₂ (λ (x : ℕ) (r : List ℕ). x ∷ r) (simp towards-suc at (a .0))
-      (part-cons file (suc (suc (eventPlace i))) 1 (omega arith)
-      ∙ ap₂ (λ (x : ℕ) (r : List ℕ). x ∷ r) (simp towards-suc at (b .0))
-      (part-cons file (suc (suc (suc (eventPlace i)))) 0 (omega arith)
-      ∙ ap₂ (λ (x : ℕ) (r : List ℕ). x ∷ r) (simp towards-suc at c) (part-none file (suc (suc (suc (suc (eventPlace i))))))))))
-      (sym (number-written file (eventPlace i + 4) bytes (omega arith))))
+      let first = eqb-and (getD file (eventPlace i + 2) 0) 0 (both-true (fillerZero file i) _ g .0) in
+      let last = eqb-true (getD file (eventPlace i + 3) 0) 0 (first .1) in
+      let four = rw (add-zero (eventPlace i), first .0, last) at (part-bytes file (eventPlace i) 0 4 (omega arith)) in
+      join (sym four) (number-written file (eventPlace i + 4) bytes (omega arith)) ∙ sym (part-add file (eventPlace i) 4 4)
 
   -- good events, written, are their bytes of the file
   events-written : (i n : ℕ) → eventPlace (i + n) ≤ length file → firstBad file i n ≡ 0

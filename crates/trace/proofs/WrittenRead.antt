@@ -23,7 +23,7 @@ length-numbers (v ∷ vs) = length-append (lowBytes 4 v) (numbersBytes vs) ∙ o
 
 length-event : (e : Event) → length (eventBytes e) ≡ 8
 unfolding eventBytes
-length-event e = length-append (e .kind ∷ 0 ∷ 0 ∷ 0 ∷ []) (lowBytes 4 (e .number)) ∙ omega (arith, length-low 4 (e .number))
+length-event e = length-append (e .kind ∷ e .caller ∷ 0 ∷ 0 ∷ []) (lowBytes 4 (e .number)) ∙ omega (arith, length-low 4 (e .number))
 
 length-eventsBytes : (es : List Event) → length (eventsBytes es) ≡ 8 * length es
 unfolding eventsBytes
@@ -52,23 +52,25 @@ module _ (pre : List ℕ) (a : ℕ) (place : length pre ≡ eventPlace a) (e : E
 
   filler-there : fillerZero file a ≡ true
   unfolding fillerZero eventBytes
-  filler-there =
-      both (eq-eqb (getD file (eventPlace a + 1) 0) 0 (byte-there 1))
-      (both (eq-eqb (getD file (eventPlace a + 2) 0) 0 (byte-there 2)) (eq-eqb (getD file (eventPlace a + 3) 0) 0 (byte-there 3)))
+  filler-there = both (eq-eqb (getD file (eventPlace a + 2) 0) 0 (byte-there 2)) (eq-eqb (getD file (eventPlace a + 3) 0) 0 (byte-there 3))
 
   kind-there : getD file (eventPlace a) 0 ≡ e .kind
   unfolding file eventBytes
   kind-there = getD-at pre (e .kind) _ 0 (eventPlace a) place
 
+  caller-there : getD file (eventPlace a + 1) 0 ≡ e .caller
+  unfolding eventBytes
+  caller-there = byte-there 1
+
   number-there : e .number < 256 ^ 4 → numberAt file (eventPlace a + 4) ≡ e .number
   unfolding file eventBytes
   number-there h =
       number-skip pre (eventBytes e ++ more) (eventPlace a) 4 place
-      ∙ number-skip (e .kind ∷ 0 ∷ 0 ∷ 0 ∷ []) (lowBytes 4 (e .number) ++ more) 4 0 refl
+      ∙ number-skip (e .kind ∷ e .caller ∷ 0 ∷ 0 ∷ []) (lowBytes 4 (e .number) ++ more) 4 0 refl
       ∙ number-head (e .number) more h
 
   event-there : e .number < 256 ^ 4 → eventAt file a ≡ e
-  event-there h = ap₂ (λ (k n : ℕ). record { kind = k; number = n }) kind-there (number-there h)
+  event-there h = rw (kind-there, caller-there, number-there h) refl
 
   good-there : e .number < 256 ^ 4 → goodAt file a ≡ right e
   unfolding goodAt

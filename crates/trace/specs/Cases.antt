@@ -1,12 +1,14 @@
--- The file of SPECIFICATION 12, files that differ from it in a byte or two, and what reading each must give.
--- proofs/Cases.antt has the theorem.
-use mathlib.Core.List.{List, [], _∷_, _++_}
+-- The file of SPECIFICATION 12, files that differ from it in a byte or two, what reading each must give, and the callers read.
+-- proofs/Cases.antt has the theorems.
+use mathlib.Core.List.{List, [], _∷_, _++_, map}
 use Prim.Native.Nat.{ℕ}
 use lib.ListN.{set, take}
 use Rattle.laws.specs.Lists.{part}
+use Rattle.trace.specs.declared.Event.{Event}
 use Rattle.trace.specs.declared.Answer.{Answer}
 use Rattle.trace.specs.declared.Answer.the-variants.{Trace, BadHeader, BadEvent}
-use Rattle.trace.specs.Trace.{little, numberAt, complete, sized, inOrder, ended, headed, fillerZero, right, goodAt, firstBad, answerOn, reading}
+use Rattle.trace.specs.Trace.{little, numberAt, complete, sized, inOrder, ended, headed, fillerZero, hasCaller, callerRight, right, goodAt, firstBad, answerOn, reading}
+use Rattle.trace.specs.Content.{content, eventsFrom}
 
 -- capacity 16, overflow 12, twelve events, the events' place 24, ten bytes, the bytes' place 120
 unfoldable pub header : List ℕ
@@ -71,16 +73,27 @@ table =
     -- kinds 0 and 6, each filler byte, and a take's number
     ∷ (set example 24 0 ▸ BadEvent 1)
     ∷ (set example 112 6 ▸ BadEvent 12)
-    ∷ (set example 33 1 ▸ BadEvent 2)
     ∷ (set example 34 1 ▸ BadEvent 2)
     ∷ (set example 35 1 ▸ BadEvent 2)
     ∷ (set example 47 1 ▸ BadEvent 3)
+    -- W-205: callers 3 and 4 of a take and of a release, and caller 1 of a reserve, a commit and a truncate
+    ∷ (set example 41 3 ▸ accepted 16 12)
+    ∷ (set example 41 4 ▸ BadEvent 3)
+    ∷ (set example 105 3 ▸ accepted 16 12)
+    ∷ (set example 105 4 ▸ BadEvent 11)
+    ∷ (set example 25 1 ▸ BadEvent 1)
+    ∷ (set example 33 1 ▸ BadEvent 2)
+    ∷ (set example 89 1 ▸ BadEvent 9)
     -- the first of two bad events, and 9 before 10
     ∷ (set (set example 112 6) 47 1 ▸ BadEvent 3)
     ∷ (set (set example 112 6) 12 32 ▸ BadHeader)
     ∷ []
 
+-- the callers of a file's events, in their order
+unfoldable pub callers : List ℕ → List ℕ
+callers file = map (λ (e : Event). e .caller) (content file .events)
+
 -- opens what reading unfolds to, for computing
 unfoldable pub definitions : Unit {0}
-unfolding part little numberAt complete sized inOrder ended headed fillerZero right goodAt firstBad answerOn reading
+unfolding part little numberAt complete sized inOrder ended headed fillerZero hasCaller callerRight right goodAt firstBad answerOn reading content eventsFrom
 definitions = tt

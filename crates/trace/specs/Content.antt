@@ -45,7 +45,7 @@ movedOn at n = (at .0, n + at .1)
 
 -- no event: its kind is none of the five
 abbrev pub noEvent : Event
-noEvent = record { kind = 0; number = 0 }
+noEvent = record { kind = 0; caller = 0; number = 0 }
 
 -- every element is a byte
 abbrev pub Bytes : List ℕ → Type 0
@@ -58,9 +58,9 @@ unfoldable pub lowBytes : ℕ → ℕ → List ℕ
 lowBytes zero v = []
 lowBytes (suc n) v = v % 256 ∷ lowBytes n (v / 256)
 
--- an event: its kind, three filler bytes, its number
+-- an event: its kind, its caller, two filler bytes, its number
 unfoldable pub eventBytes : Event → List ℕ
-eventBytes e = (e .kind ∷ 0 ∷ 0 ∷ 0 ∷ []) ++ lowBytes 4 (e .number)
+eventBytes e = (e .kind ∷ e .caller ∷ 0 ∷ 0 ∷ []) ++ lowBytes 4 (e .number)
 
 -- the events, one after the other
 unfoldable pub eventsBytes : List Event → List ℕ

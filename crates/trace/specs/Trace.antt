@@ -1,6 +1,6 @@
 -- A trace file, SPECIFICATION 9: its numbers, its header, its events, and what reading it gives.
 -- A file is the list of its bytes. `reading` is what `read` answers.
-use mathlib.Core.Bool.{Bool, true, false, _&&_}
+use mathlib.Core.Bool.{Bool, true, false, _&&_, _||_}
 use mathlib.Core.List.{List, [], _∷_}
 use Prim.Native.Nat.{ℕ, zero, suc, _+_, _*_}
 use lib.Dec.{leb, eqb}
@@ -44,6 +44,10 @@ truncateKind = 4
 
 abbrev pub releaseKind : ℕ
 releaseKind = 5
+
+-- W-205, the greatest caller: "a caller, 0 to 3"
+abbrev pub mostCaller : ℕ
+mostCaller = 3
 
 -- ---- Numbers in a file
 
@@ -107,17 +111,30 @@ headed file = complete file && (sized file && (inOrder file && ended file))
 
 -- ---- The events
 
--- 9.4, the event of index i: a kind byte, three filler bytes, a number
+-- 9.4, the event of index i: a kind byte, a caller byte, two filler bytes, a number
 abbrev pub eventAt : List ℕ → ℕ → Event
-eventAt file i = record { kind = getD file (eventPlace i) 0; number = numberAt file (eventPlace i + 4) }
+eventAt file i =
+    record {
+      kind = getD file (eventPlace i) 0;
+      caller = getD file (eventPlace i + 1) 0;
+      number = numberAt file (eventPlace i + 4);
+    }
 
 -- the filler bytes of the event of index i are 0
 unfoldable pub fillerZero : List ℕ → ℕ → Bool
-fillerZero file i = eqb (getD file (eventPlace i + 1) 0) 0 && (eqb (getD file (eventPlace i + 2) 0) 0 && eqb (getD file (eventPlace i + 3) 0) 0)
+fillerZero file i = eqb (getD file (eventPlace i + 2) 0) 0 && eqb (getD file (eventPlace i + 3) 0) 0
 
--- the kind is one of the five, and a take's number is 0
+-- W-205, events of this kind have a caller: "takes and releases"
+unfoldable pub hasCaller : ℕ → Bool
+hasCaller kind = eqb kind takeKind || eqb kind releaseKind
+
+-- W-205, the caller byte: "a value over 3" is bad, and "that byte must be 0 for other kinds"
+unfoldable pub callerRight : Event → Bool
+callerRight e = pick (hasCaller (e .kind)) (leb (e .caller) mostCaller) (eqb (e .caller) 0)
+
+-- the kind is one of the five, the caller is right, and a take's number is 0
 unfoldable pub right : Event → Bool
-right e = leb reserveKind (e .kind) && (leb (e .kind) releaseKind && implies (eqb (e .kind) takeKind) (eqb (e .number) 0))
+right e = leb reserveKind (e .kind) && (leb (e .kind) releaseKind && (callerRight e && implies (eqb (e .kind) takeKind) (eqb (e .number) 0)))
 
 -- 9.5: the event of index i is good
 unfoldable pub goodAt : List ℕ → ℕ → Bool

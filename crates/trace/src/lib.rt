@@ -4,7 +4,7 @@ ghost use mathlib.Core.Path.{_≡_};
 ghost use Prim.Native.Nat.{_+_, _<_, _^_};
 ghost use denote.Ref.{ptr};
 ghost use lib.ListN.{getD};
-ghost use Rattle.trace.specs.Trace.{numberAt, sized, inOrder, ended, headed, fillerZero, right, goodAt, firstBad, reading, refusalOf, eventPlace, eventAt};
+ghost use Rattle.trace.specs.Trace.{numberAt, sized, inOrder, ended, headed, fillerZero, hasCaller, callerRight, right, goodAt, firstBad, reading, refusalOf, eventPlace, eventAt};
 ghost use Rattle.trace.specs.Content.{content, noEvent, bytesPlace, movedOn};
 
 // The largest pool capacity and overflow length.
@@ -34,6 +34,9 @@ pub const TRUNCATE: u8 = 4;
 
 pub const RELEASE: u8 = 5;
 
+// The greatest caller of a take or a release.
+pub const MOST_CALLER: u8 = 3;
+
 // The numbers of an accepted header: the two sizes, the count of events and the count of bytes.
 pub struct Header {
     pub capacity: u32,
@@ -42,9 +45,10 @@ pub struct Header {
     pub bytes: u32,
 }
 
-// An event: its kind and its number.
+// An event: its kind, its caller (of a take or a release; 0 in a good event of another kind) and its number.
 pub struct Event {
     pub kind: u8,
+    pub caller: u8,
     pub number: u32,
 }
 
@@ -154,28 +158,48 @@ fn event_there(file: &[u8], index: u32) -> Event
 {
     let at = event_place(index);
     let kind = byte_at(file, at);
+    let caller = byte_at(file, at + 1);
     let number = number(file, at + 4);
     Event {
         kind: kind,
+        caller: caller,
         number: number,
     }
 }
 
-// Are the three filler bytes of an event 0?
+// Are the two filler bytes of an event 0?
 fn filler_is_zero(file: &[u8], index: u32) -> bool
     ensures { λ r. ⌜ r ≡ fillerZero (now (file .entry)) index ⌝ }
 {
     let at = event_place(index);
-    if byte_at(file, at + 1) != 0 {
-        return false;
-    }
     if byte_at(file, at + 2) != 0 {
         return false;
     }
     byte_at(file, at + 3) == 0
 }
 
-// Is the kind one of the five, and a take's number 0?
+// Do events of this kind have a caller: is it a take or a release?
+fn has_caller(kind: u8) -> bool
+    ensures { λ r. ⌜ r ≡ hasCaller kind ⌝ }
+{
+    if kind == TAKE {
+        return true;
+    }
+    kind == RELEASE
+}
+
+// Is the caller one of the four where the kind has one, and 0 where it has none?
+fn is_caller_right(event: Event) -> bool
+    ensures { λ r. ⌜ r ≡ callerRight event ⌝ }
+{
+    let caller = event.caller;
+    if has_caller(event.kind) {
+        return caller <= MOST_CALLER;
+    }
+    caller == 0
+}
+
+// Is the kind one of the five, the caller right, and a take's number 0?
 fn is_right(event: Event) -> bool
     ensures { λ r. ⌜ r ≡ right event ⌝ }
 {
@@ -184,6 +208,9 @@ fn is_right(event: Event) -> bool
         return false;
     }
     if RELEASE < kind {
+        return false;
+    }
+    if !is_caller_right(event) {
         return false;
     }
     if kind == TAKE {
@@ -255,7 +282,11 @@ pub fn event_at(file: &[u8], index: u32) -> Event
     ensures { λ r. ⌜ r ≡ getD (content (now (file .entry)) .events) index noEvent ⌝ }
 {
     if number(file, 8) <= index {
-        return Event { kind: 0, number: 0 };
+        return Event {
+            kind: 0,
+            caller: 0,
+            number: 0,
+        };
     }
     event_there(file, index)
 }

@@ -3,6 +3,9 @@
 /// The most bytes that either memory may have (SPECIFICATION 3.3, refusal 3).
 pub const BYTE_LIMIT: u32 = 1_048_576;
 
+/// How many callers there are: 0 to 3.
+pub const CALLERS: usize = 4;
+
 /// Bytes in a list's head and in one event.
 const HEAD: usize = 12;
 const EVENT: usize = 16;
@@ -20,11 +23,14 @@ pub struct List {
 pub enum Event {
     Reserve(u64),
     Commit(u64),
-    /// Take, with the length of the lent destination.
-    Take(u64),
+    /// Take, by a caller who may be none, with the length of the lent destination.
+    Take {
+        caller: u8,
+        destination: u64,
+    },
     Truncate(u64),
-    /// Release the slice with this serial.
-    Release(u32),
+    /// Release the slice with this name.
+    Release(Name),
     /// Set the byte at an index of a view.
     Write {
         view: View,
@@ -38,8 +44,16 @@ pub enum Event {
 pub enum View {
     Reservation,
     Frame,
-    /// The slice with this serial.
-    Slice(u32),
+    /// The slice with this name.
+    Slice(Name),
+}
+
+/// What names a slice: the caller that took it, and its serial among that caller's. A serial alone
+/// names none, as every caller's serials start at 1.
+#[derive(Clone, Copy, Debug, PartialEq, Eq, PartialOrd, Ord)]
+pub struct Name {
+    pub caller: u8,
+    pub serial: u32,
 }
 
 impl Event {
@@ -48,60 +62,65 @@ impl Event {
         match self {
             Event::Reserve(_) => 'r',
             Event::Commit(_) => 'c',
-            Event::Take(_) => 't',
+            Event::Take { .. } => 't',
             Event::Truncate(_) => 'k',
             Event::Release(_) => 'd',
             Event::Write { .. } => 'w',
         }
     }
 
-    /// The fields of the event: kind, value, serial, number.
+    /// The caller that the event names: 0 for a kind that names none.
+    pub fn caller(&self) -> u8 {
+        match *self {
+            Event::Take { caller, .. } => caller,
+            Event::Release(name) | Event::Write { view: View::Slice(name), .. } => name.caller,
+            _ => 0,
+        }
+    }
+
+    /// The fields of the event beside its caller: kind, value, serial, number.
     fn fields(&self) -> (u8, u8, u32, u64) {
         match *self {
             Event::Reserve(len) => (1, 0, 0, len),
             Event::Commit(len) => (2, 0, 0, len),
-            Event::Take(destination) => (3, 0, 0, destination),
+            Event::Take { destination, .. } => (3, 0, 0, destination),
             Event::Truncate(len) => (4, 0, 0, len),
-            Event::Release(serial) => (5, 0, serial, 0),
+            Event::Release(name) => (5, 0, name.serial, 0),
             Event::Write { view, index, value } => match view {
                 View::Reservation => (6, value, 0, index),
                 View::Frame => (7, value, 0, index),
-                View::Slice(serial) => (8, value, serial, index),
+                View::Slice(name) => (8, value, name.serial, index),
             },
         }
     }
 
-    /// The event with these fields, if there is one: a field that the kind does not use is 0.
-    fn from_fields(kind: u8, value: u8, serial: u32, number: u64) -> Option<Event> {
+    fn encode(&self) -> [u8; EVENT] {
+        let (kind, value, serial, number) = self.fields();
+        let mut bytes = [0; EVENT];
+        bytes[..3].copy_from_slice(&[kind, value, self.caller()]);
+        bytes[4..8].copy_from_slice(&serial.to_le_bytes());
+        bytes[8..].copy_from_slice(&number.to_le_bytes());
+        bytes
+    }
+
+    /// The event with these bytes, if there is one: a field that the kind does not use is 0.
+    fn decode(bytes: &[u8]) -> Option<Event> {
+        let (value, caller, serial) = (bytes[1], bytes[2], word(&bytes[4..8]));
+        let number = u64::from(word(&bytes[8..12])) | u64::from(word(&bytes[12..16])) << 32;
+        let name = Name { caller, serial };
         let write = |view| Event::Write { view, index: number, value };
-        let event = match kind {
+        let event = match bytes[0] {
             1 => Event::Reserve(number),
             2 => Event::Commit(number),
-            3 => Event::Take(number),
+            3 => Event::Take { caller, destination: number },
             4 => Event::Truncate(number),
-            5 => Event::Release(serial),
+            5 => Event::Release(name),
             6 => write(View::Reservation),
             7 => write(View::Frame),
-            8 => write(View::Slice(serial)),
+            8 => write(View::Slice(name)),
             _ => return None,
         };
-        (event.fields() == (kind, value, serial, number)).then_some(event)
-    }
-
-    fn encode(&self, out: &mut Vec<u8>) {
-        let (kind, value, serial, number) = self.fields();
-        out.extend([kind, value, 0, 0]);
-        out.extend(serial.to_le_bytes());
-        out.extend(number.to_le_bytes());
-    }
-
-    fn decode(bytes: &[u8]) -> Option<Event> {
-        if bytes[2] != 0 || bytes[3] != 0 {
-            return None;
-        }
-        let serial = word(&bytes[4..8]);
-        let number = u64::from(word(&bytes[8..12])) | u64::from(word(&bytes[12..16])) << 32;
-        Event::from_fields(bytes[0], bytes[1], serial, number)
+        (event.encode() == bytes).then_some(event)
     }
 }
 
@@ -117,9 +136,7 @@ pub fn encode(lists: &[List]) -> Vec<u8> {
         out.extend(list.capacity.to_le_bytes());
         out.extend(list.overflow.to_le_bytes());
         out.extend((list.events.len() as u32).to_le_bytes());
-        for event in &list.events {
-            event.encode(&mut out);
-        }
+        out.extend(list.events.iter().flat_map(Event::encode));
     }
     out
 }
@@ -177,26 +194,46 @@ mod tests {
             events: vec![
                 Event::Reserve(u64::MAX),
                 Event::Commit(1 << 40),
-                Event::Take(3),
+                Event::Take { caller: 3, destination: 3 },
+                Event::Take { caller: 255, destination: 0 },
                 Event::Truncate(2),
-                Event::Release(u32::MAX),
+                Event::Release(Name { caller: 4, serial: u32::MAX }),
                 write(View::Reservation),
                 write(View::Frame),
-                write(View::Slice(7)),
+                write(View::Slice(Name { caller: 1, serial: 7 })),
             ],
         };
         let lists = vec![list.clone(), list];
         assert_eq!(decode(&encode(&lists)), Ok(lists));
     }
 
+    /// The bytes with some of them changed.
+    fn with(bytes: &[u8], changes: &[(usize, u8)]) -> Vec<u8> {
+        let mut bytes = bytes.to_vec();
+        changes.iter().for_each(|&(at, byte)| bytes[at] = byte);
+        bytes
+    }
+
+    /// Byte 2 of an event is the caller of a take, a release or a write through a slice, and 0 for
+    /// the other kinds; byte 3 is 0 for all.
+    #[test]
+    fn a_caller_stands_where_one_is_named() {
+        let of = |kind: u8, at: usize| {
+            let head = [1, 0, 0, 0, 1, 0, 0, 0, 1, 0, 0, 0];
+            let event = with(&[0; EVENT], &[(0, kind), (at, 200)]);
+            let list = decode(&[&head[..], &event].concat()).ok()?.remove(0);
+            Some(list.events[0].caller())
+        };
+        for kind in 1..=8 {
+            let named = [3, 5, 8].contains(&kind);
+            assert_eq!((of(kind, 2), of(kind, 3)), (named.then_some(200), None), "kind {kind}");
+        }
+    }
+
     #[test]
     fn a_bad_file_is_named() {
         let good = encode(&[List { capacity: 1, overflow: 1, events: vec![Event::Reserve(1)] }]);
-        let broken = |at: usize, byte: u8| {
-            let mut bytes = good.clone();
-            bytes[at] = byte;
-            decode(&bytes)
-        };
+        let broken = |at: usize, byte: u8| decode(&with(&good, &[(at, byte)]));
         for at in [13, 14, 15, 16] {
             assert_eq!(broken(at, 1), Err("list 1: event 1 is none".into()));
         }

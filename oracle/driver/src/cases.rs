@@ -1,8 +1,10 @@
-//! The cases of SPECIFICATION 11 and the listing of 12, asked of the Rust. The expected values are
-//! typed in as the customers gave them; nothing here is copied from what the driver prints.
+//! The cases of SPECIFICATION 11 and the listing of 12, asked of the Rust, and callers with serials of
+//! their own. The expected values are typed in as the customers gave them; nothing here is copied from
+//! what the driver prints.
 
+use crate::calls::Name;
 use crate::classes::Tally;
-use crate::generate;
+use crate::generate::{self, Callers, Options};
 use crate::judge::{Answer, Judge};
 use crate::moves::Move;
 use crate::text;
@@ -137,6 +139,58 @@ fn a_second_release_is_refused() {
     assert_eq!(done("pool 16 overflow 20\nr 6; c 6; t\nd 1; d 1").refusals(2), [0, 7]);
 }
 
+/// Capacity 16, overflow 20; callers 0 and 2 take two slices of 2 bytes each, by turns.
+const TWO_CALLERS: &str = "pool 16 overflow 20
+    r 2; w r 0 11; c 2; t; r 2; w r 0 21; c 2; t by 2
+    r 2; w r 0 12; c 2; t; r 2; w r 0 22; c 2; t by 2\n";
+
+#[test]
+fn every_caller_has_serials_from_1() {
+    let done = done(TWO_CALLERS);
+    let names = done.judge.live_names();
+    let names: Vec<(u8, u32)> = names.iter().map(|name| (name.caller, name.serial)).collect();
+    assert_eq!(names, [(0, 1), (2, 1), (0, 2), (2, 2)]);
+    assert_eq!((done.live(), done.judge.serials()), (0xf0, [2, 0, 2, 0]));
+}
+
+/// Slots 1 and 2 have serial 1: the bytes written and the slot freed are those of the caller named.
+#[test]
+fn one_serial_of_two_callers_names_two_slices() {
+    let after = |text: &str| done(&format!("{TWO_CALLERS}{text}"));
+    let bytes = |done: &Done| done.judge.slices().map(|(_, slice)| slice[0]).collect::<Vec<u8>>();
+    assert_eq!(bytes(&after("w 1 0 a1; w 1 0 a2 by 2")), [0xa1, 0xa2, 0x12, 0x22]);
+    assert_eq!(after("d 1 by 2").live(), 0xb0);
+    let released = after("d 1 by 2; d 1 by 2; w 1 0 a2 by 2; d 1");
+    assert_eq!((released.refusals(4), released.live()), (vec![0, 7, 0, 0], 0x30));
+    assert_eq!(bytes(&released), [0x12, 0x22]);
+}
+
+#[test]
+fn a_slice_is_not_released_by_another_caller() {
+    let done = done(&format!("{TWO_CALLERS}d 1 by 1; d 1 by 3; d 1 by 4; d 1 by 255; d 2 by 1"));
+    assert_eq!((done.refusals(5), done.live()), (vec![7; 5], 0xf0));
+}
+
+/// 12 for an empty frame, for one in the pool, and before 6. The refused take leaves the reservation.
+#[test]
+fn a_take_by_no_caller_is_refused() {
+    let empty = done("pool 4 overflow 8\nr 2; t by 4; t by 255; c 2; t by 4; t by 3; d 1 by 3");
+    assert_eq!(empty.refusals(6), [12, 12, 0, 12, 0, 0]);
+    let copied = done("pool 4 overflow 8\nr 5; c 5; t 4; t 4 by 4; t 4 by 3; t 5 by 4; t 5 by 3");
+    assert_eq!(copied.refusals(5), [6, 12, 6, 12, 0]);
+}
+
+/// Takes of others, of empty frames and out of the overflow, and refused takes give no serial.
+#[test]
+fn a_serial_depends_on_the_callers_own_pooled_takes() {
+    let done = done(
+        "pool 4 overflow 8\nt by 1; r 5; c 5; t 4 by 1; t by 1; r 1; c 1; t by 4; t by 1
+         r 1; c 1; t; r 1; c 1; t by 3; r 1; c 1; t by 1",
+    );
+    assert_eq!(done.judge.serials(), [1, 2, 0, 1]);
+    assert_eq!(done.judge.live_names().last(), Some(&Name { caller: 1, serial: 2 }));
+}
+
 /// The moves of the frame in the Rust's last reserve, of SPECIFICATION 11.22 to 11.25: kind, from,
 /// length, to.
 #[test]
@@ -173,23 +227,32 @@ pool 16 overflow 12
 T 10 2 50 0
 ";
 
+/// So many short lists from a seed.
+fn options(seed: u64, count: u64, events: u64, callers: Callers) -> Options {
+    Options { seed, count, capacity: 40, events, callers, cover: 0 }
+}
+
 /// Lists from a seed in the unoptimised build: no sum wraps, nothing panics, and every event is of
 /// a known class.
 #[test]
 fn generated_lists_reach_known_classes_only() {
-    let options = generate::Options { seed: 2, count: 600, capacity: 40, events: 120, cover: 0 };
     let mut tally = Tally::new();
-    for list in generate::lists(&options) {
+    for list in generate::lists(&options(2, 600, 120, Callers::All)) {
         tally.add_list(&list);
     }
     assert_eq!(tally.unknown(), 0);
 }
 
+#[test]
+fn lists_of_the_first_caller_name_no_other() {
+    let lists = generate::lists(&options(3, 100, 120, Callers::First));
+    assert!(lists.iter().flat_map(|list| &list.events).all(|event| event.caller() == 0));
+}
+
 /// A copy made by doing everything again shows what the pool shows, and answers as it does.
 #[test]
 fn a_pool_made_again_is_the_same() {
-    let options = generate::Options { seed: 5, count: 40, capacity: 40, events: 60, cover: 0 };
-    for list in generate::lists(&options) {
+    for list in generate::lists(&options(5, 40, 60, Callers::All)) {
         let mut judge = Judge::new(list.capacity, list.overflow);
         for event in &list.events {
             let mut again = judge.again();
@@ -198,6 +261,8 @@ fn a_pool_made_again_is_the_same() {
             assert_eq!((again.frame(), again.reservation()), (judge.frame(), judge.reservation()));
             assert_eq!(again.pool_bytes(), judge.pool_bytes());
             assert!(again.slices().eq(judge.slices()));
+            assert_eq!(again.live_names(), judge.live_names());
+            assert_eq!(again.serials(), judge.serials());
         }
     }
 }

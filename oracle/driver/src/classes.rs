@@ -3,8 +3,8 @@
 //! the modes before and after, the reset, the mode changes and the moves (SPECIFICATION 5 and 6);
 //! "frame" and "empty" say whether the frame that stands has bytes.
 
-use crate::calls::{Event, List, View, BYTE_LIMIT};
-use crate::judge::{Answer, Judge, Situation};
+use crate::calls::{Event, List, Name, View, BYTE_LIMIT, CALLERS};
+use crate::judge::{Answer, Judge, Situation, UNKNOWN_CALLER};
 use crate::moves::Move;
 use crate::record::{Mode, Record, SLOTS};
 use std::cmp::Ordering;
@@ -110,6 +110,11 @@ const CLASSES: &[&str] = &[
     // Takes.
     "t pooled, B",
     "t pooled, F",
+    "t pooled, caller 0",
+    "t pooled, caller 1",
+    "t pooled, caller 2",
+    "t pooled, caller 3",
+    "t pooled, another caller's live slice has the serial",
     "t copied",
     "t copied, destination fits exactly",
     "t empty, B",
@@ -118,6 +123,11 @@ const CLASSES: &[&str] = &[
     "t empty, reservation open",
     "t refused 6",
     "t refused 6, one byte too short",
+    "t refused 12, frame in the pool",
+    "t refused 12, frame in A",
+    "t refused 12, frame in A longer than the destination",
+    "t refused 12, empty",
+    "t refused 12, reservation open",
     // Truncates.
     "k cuts, B",
     "k cuts, F",
@@ -130,8 +140,12 @@ const CLASSES: &[&str] = &[
     "d, B",
     "d, F",
     "d, A",
+    "d, another caller's live slice has the serial",
     "d refused 7, released before",
     "d refused 7, never given",
+    "d refused 7, no caller",
+    "d refused 7, another caller's live slice has the serial",
+    "d refused 7, no caller, a live slice has the serial",
     // Writes.
     "w reservation in the pool",
     "w reservation in A",
@@ -141,7 +155,11 @@ const CLASSES: &[&str] = &[
     "w frame, past its end",
     "w slice",
     "w slice, past its end",
+    "w slice, another caller's live slice has the serial",
     "w slice, not live",
+    "w slice, not live, no caller",
+    "w slice, not live, another caller's live slice has the serial",
+    "w slice, not live, no caller, a live slice has the serial",
     // Memories.
     "pool of 0 bytes",
     "pool of 1 byte",
@@ -272,10 +290,10 @@ pub fn classes(before: &Situation, event: &Event, answer: &Answer, judge: &Judge
         Event::Reserve(len) if answer.refusal == 0 => reserve(before, len, answer, judge),
         Event::Reserve(len) => refused_reserve(before, len),
         Event::Commit(len) => commit(before, len, answer),
-        Event::Take(destination) => take(before, destination, answer),
+        Event::Take { caller, destination } => take(before, caller, destination, answer, judge),
         Event::Truncate(len) => truncate(before, len),
-        Event::Release(serial) => release(before, serial, answer, judge),
-        Event::Write { view, index, .. } => write(before, view, index, answer),
+        Event::Release(name) => release(before, name, answer, judge),
+        Event::Write { view, index, .. } => write(before, view, index, answer, judge),
     }
 }
 
@@ -555,8 +573,28 @@ fn commit(before: &Situation, len: u64, answer: &Answer) -> Vec<String> {
     }]
 }
 
-fn take(before: &Situation, destination: u64, answer: &Answer) -> Vec<String> {
+/// Whether a live slice has this serial under another caller.
+fn shared(name: Name, judge: &Judge) -> bool {
+    let others = |live: &Name| live.serial == name.serial && live.caller != name.caller;
+    judge.live_names().iter().any(others)
+}
+
+/// Whether the number is no caller's.
+fn no_caller(caller: u8) -> bool {
+    usize::from(caller) >= CALLERS
+}
+
+fn take(
+    before: &Situation,
+    caller: u8,
+    destination: u64,
+    answer: &Answer,
+    judge: &Judge,
+) -> Vec<String> {
     let frame_len = before.frame_len as u64;
+    if answer.refusal == UNKNOWN_CALLER {
+        return unknown_caller(before, destination);
+    }
     if answer.refusal != 0 {
         let short = frame_len == destination + 1;
         return holding(&[(true, "t refused 6"), (short, "t refused 6, one byte too short")]);
@@ -566,13 +604,28 @@ fn take(before: &Situation, destination: u64, answer: &Answer) -> Vec<String> {
         names.extend(holding(&[(before.reserved > 0, "t empty, reservation open")]));
         return names;
     }
-    match before.record.mode {
-        Mode::Overflow => {
-            let exact = frame_len == destination;
-            holding(&[(true, "t copied"), (exact, "t copied, destination fits exactly")])
-        }
-        _ => vec![format!("t pooled, {}", letter(before))],
+    if before.record.mode == Mode::Overflow {
+        let exact = frame_len == destination;
+        return holding(&[(true, "t copied"), (exact, "t copied, destination fits exactly")]);
     }
+    let name = Name { caller, serial: judge.serials()[usize::from(caller)] };
+    let of_two = "t pooled, another caller's live slice has the serial";
+    let mut names =
+        vec![format!("t pooled, {}", letter(before)), format!("t pooled, caller {caller}")];
+    names.extend(holding(&[(shared(name, judge), of_two)]));
+    names
+}
+
+/// A take refused with 12, by the frame that stays. 12 comes before 6.
+fn unknown_caller(before: &Situation, destination: u64) -> Vec<String> {
+    let in_overflow = before.record.mode == Mode::Overflow;
+    let name = match (before.frame_len as u64, in_overflow) {
+        (0, _) => "t refused 12, empty",
+        (_, false) => "t refused 12, frame in the pool",
+        (len, _) if len > destination => "t refused 12, frame in A longer than the destination",
+        _ => "t refused 12, frame in A",
+    };
+    holding(&[(true, name), (before.reserved > 0, "t refused 12, reservation open")])
 }
 
 fn truncate(before: &Situation, len: u64) -> Vec<String> {
@@ -584,16 +637,30 @@ fn truncate(before: &Situation, len: u64) -> Vec<String> {
     names
 }
 
-fn release(before: &Situation, serial: u32, answer: &Answer, judge: &Judge) -> Vec<String> {
-    let given = (1..=judge.serials()).contains(&serial);
-    vec![match (answer.refusal, given) {
-        (0, _) => format!("d, {}", letter(before)),
-        (_, true) => "d refused 7, released before".to_string(),
-        (_, false) => "d refused 7, never given".to_string(),
-    }]
+fn release(before: &Situation, name: Name, answer: &Answer, judge: &Judge) -> Vec<String> {
+    let class = match answer.refusal {
+        0 => format!("d, {}", letter(before)),
+        _ if no_caller(name.caller) => "d refused 7, no caller".to_string(),
+        _ if judge.was_given(name) => "d refused 7, released before".to_string(),
+        _ => "d refused 7, never given".to_string(),
+    };
+    let of_two = match answer.refusal {
+        0 => "d, another caller's live slice has the serial",
+        _ if no_caller(name.caller) => "d refused 7, no caller, a live slice has the serial",
+        _ => "d refused 7, another caller's live slice has the serial",
+    };
+    let mut names = vec![class];
+    names.extend(holding(&[(shared(name, judge), of_two)]));
+    names
 }
 
-fn write(before: &Situation, view: View, index: u64, answer: &Answer) -> Vec<String> {
+fn write(
+    before: &Situation,
+    view: View,
+    index: u64,
+    answer: &Answer,
+    judge: &Judge,
+) -> Vec<String> {
     let written = index < answer.len as u64;
     let in_overflow = before.record.mode == Mode::Overflow;
     let name = match (view, written, in_overflow) {
@@ -603,10 +670,25 @@ fn write(before: &Situation, view: View, index: u64, answer: &Answer) -> Vec<Str
         (View::Frame, true, false) => "w frame in the pool",
         (View::Frame, true, true) => "w frame in A",
         (View::Frame, false, _) => "w frame, past its end",
-        (View::Slice(_), true, _) => "w slice",
         // A live slice has at least one byte.
-        (View::Slice(_), false, _) if answer.len > 0 => "w slice, past its end",
-        (View::Slice(_), false, _) => "w slice, not live",
+        (View::Slice(name), ..) => return slice_write(name, written, answer.len > 0, judge),
     };
     vec![name.to_string()]
+}
+
+/// A write through the slice with a name, which may be live or not.
+fn slice_write(name: Name, written: bool, live: bool, judge: &Judge) -> Vec<String> {
+    let class = match (written, live) {
+        (true, _) => "w slice",
+        (_, true) => "w slice, past its end",
+        _ if no_caller(name.caller) => "w slice, not live, no caller",
+        _ => "w slice, not live",
+    };
+    let of_two = match (written, live) {
+        (true, _) => "w slice, another caller's live slice has the serial",
+        (_, true) => return holding(&[(true, class)]),
+        _ if no_caller(name.caller) => "w slice, not live, no caller, a live slice has the serial",
+        _ => "w slice, not live, another caller's live slice has the serial",
+    };
+    holding(&[(true, class), (shared(name, judge), of_two)])
 }

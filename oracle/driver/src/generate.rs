@@ -1,7 +1,7 @@
 //! Lists made from a seed. Each event is chosen by looking at the real pool as it stands, so that
 //! all slots fill up, lengths fall on the edges of what fits, and rare turns are taken often.
 
-use crate::calls::{Event, List, View};
+use crate::calls::{Event, List, Name, View, CALLERS};
 use crate::classes::Tally;
 use crate::judge::{Judge, Situation};
 use crate::random::Random;
@@ -16,8 +16,18 @@ pub struct Options {
     pub capacity: u32,
     /// The most events of a list.
     pub events: u64,
+    pub callers: Callers,
     /// If not 0, only what is needed to reach each class this many times is kept.
     pub cover: u64,
+}
+
+/// Who takes in a list.
+#[derive(Clone, Copy)]
+pub enum Callers {
+    /// Caller 0 alone, as where no caller is named.
+    First,
+    /// Each of the four, and now and then a number that is no caller.
+    All,
 }
 
 /// Makes the lists.
@@ -51,7 +61,7 @@ fn list(random: &mut Random, options: &Options) -> List {
     let (capacity, overflow) = lengths(random, options.capacity);
     let count = random.within(1, options.events);
     let mut judge = Judge::new(capacity, overflow);
-    let mut author = Author::new(random, capacity);
+    let mut author = Author::new(random, capacity, options.callers);
     let mut next = || {
         let event = author.choose(&judge);
         judge.apply(&event);
@@ -114,6 +124,7 @@ enum Act {
 /// One who writes a list while the pool runs it.
 pub struct Author<'a> {
     random: &'a mut Random,
+    callers: Callers,
     /// The order in which slices are released, chosen anew for each run of releases.
     order: Order,
     /// The longest of the small reservations: eight of them fit in the pool.
@@ -125,9 +136,10 @@ pub struct Author<'a> {
 }
 
 impl<'a> Author<'a> {
-    /// One who writes for a pool of this capacity.
-    pub fn new(random: &'a mut Random, capacity: u32) -> Author<'a> {
+    /// One who writes for a pool of this capacity, on behalf of these callers.
+    pub fn new(random: &'a mut Random, capacity: u32, callers: Callers) -> Author<'a> {
         Author {
+            callers,
             order: Order::First,
             small: random.within(1, u64::from(capacity / SLOTS as u32).max(1)),
             filling: random.chance(FILLS),
@@ -143,14 +155,14 @@ impl<'a> Author<'a> {
         match self.act(&at) {
             Act::Reserve => Event::Reserve(self.reserve_len(&at)),
             Act::Commit => Event::Commit(self.commit_len(&at)),
-            Act::Take => Event::Take(self.destination(&at)),
+            Act::Take => Event::Take { caller: self.caller(), destination: self.destination(&at) },
             Act::Truncate => Event::Truncate(self.truncate_len(&at)),
-            Act::Release => Event::Release(self.release_serial(&at, judge)),
+            Act::Release => Event::Release(self.release_name(&at, judge)),
             Act::WriteReservation => self.write(View::Reservation, at.reserved),
             Act::WriteFrame => self.write(View::Frame, at.frame_len),
             Act::WriteSlice => {
-                let serial = self.any_serial(judge);
-                self.write(View::Slice(serial), at.capacity / SLOTS)
+                let name = self.any_name(judge);
+                self.write(View::Slice(name), at.capacity / SLOTS)
             }
         }
     }
@@ -282,6 +294,15 @@ impl<'a> Author<'a> {
         self.random.weighed(&choices)
     }
 
+    /// Any caller, and seldom a number that is none. For the first caller alone nothing is drawn.
+    fn caller(&mut self) -> u8 {
+        match self.callers {
+            Callers::First => 0,
+            Callers::All if self.random.chance(3) => self.random.pick(&[4, 5, 7, 0x80, 0xff]),
+            Callers::All => self.random.below(CALLERS as u64) as u8,
+        }
+    }
+
     fn destination(&mut self, at: &Situation) -> u64 {
         let frame = at.frame_len as u64;
         let shorter = self.random.within(0, frame);
@@ -301,12 +322,12 @@ impl<'a> Author<'a> {
         self.random.weighed(&[(5, part), (2, frame), (2, frame + 1), (1, 0), (1, u64::MAX)])
     }
 
-    /// Mostly a live serial, in the order of the run, and often the start of a run.
+    /// Mostly a live name, in the order of the run, and often the start of a run.
     /// In the front it is often the slice before the frame, or the last of the back.
-    fn release_serial(&mut self, at: &Situation, judge: &Judge) -> u32 {
-        let live = judge.live_serials();
+    fn release_name(&mut self, at: &Situation, judge: &Judge) -> Name {
+        let live = judge.live_names();
         if live.is_empty() || self.random.chance(6) {
-            return self.any_serial(judge);
+            return self.any_name(judge);
         }
         if let (0, Mode::Front { used, .. }) = (self.run, at.record.mode) {
             let front = (1..=used).filter(|&p| at.record.is_live(p)).count();
@@ -329,14 +350,21 @@ impl<'a> Author<'a> {
         }
     }
 
-    /// A serial that may be live, released, or not given yet; rarely 0 or the last there is.
-    fn any_serial(&mut self, judge: &Judge) -> u32 {
-        let live = judge.live_serials();
+    /// A name that may be live, released, or not given yet, or have the serial of another caller's live
+    /// slice; rarely serial 0 or the last there is.
+    fn any_name(&mut self, judge: &Judge) -> Name {
+        let live = judge.live_names();
         if !live.is_empty() && self.random.chance(70) {
-            return self.random.pick(&live);
+            let name = self.random.pick(&live);
+            return match self.callers {
+                Callers::All if self.random.chance(20) => Name { caller: self.caller(), ..name },
+                _ => name,
+            };
         }
-        let given = self.random.within(0, u64::from(judge.serials()) + 1) as u32;
-        self.random.weighed(&[(9, given), (1, u32::MAX)])
+        let caller = self.caller();
+        let given = judge.serials().get(usize::from(caller)).copied().unwrap_or(0);
+        let serial = self.random.within(0, u64::from(given) + 1) as u32;
+        Name { caller, serial: self.random.weighed(&[(9, serial), (1, u32::MAX)]) }
     }
 
     /// A write of some byte, mostly at an index below `len`.

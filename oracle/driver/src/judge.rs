@@ -1,6 +1,6 @@
 //! The Rust as judge: a real pool to which a list is done, and what it answers.
 
-use crate::calls::{Event, View};
+use crate::calls::{Event, Name, View, CALLERS};
 use crate::changes;
 use crate::moves::{self, Move};
 use crate::record::{mask, slot_of, Mode, Pool, Record, SLOTS};
@@ -11,6 +11,7 @@ pub const OVERFLOW_TOO_SHORT: u8 = 4;
 pub const COMMIT_TOO_LONG: u8 = 5;
 pub const DESTINATION_TOO_SHORT: u8 = 6;
 pub const NOT_LIVE: u8 = 7;
+pub const UNKNOWN_CALLER: u8 = 12;
 
 /// What an event gave: a refusal number or 0, a place, and at a reserve the count of mode changes and
 /// the moves of the frame.
@@ -49,7 +50,7 @@ pub struct Situation {
 
 /// A slice that was taken out of the pool and not released.
 struct Held {
-    serial: u32,
+    name: Name,
     slice: Slice,
     start: usize,
 }
@@ -66,8 +67,8 @@ pub struct Judge {
     reserved: usize,
     /// The held slices, by slot.
     held: [Option<Held>; SLOTS],
-    /// Serials given.
-    serials: u32,
+    /// Serials given to each caller.
+    serials: [u32; CALLERS],
     /// Every call that was not refused and every write that reached its view: what a twin replays.
     accepted: Vec<Event>,
     record: Record,
@@ -87,7 +88,7 @@ impl Judge {
             offer,
             reserved: 0,
             held: Default::default(),
-            serials: 0,
+            serials: [0; CALLERS],
             accepted: Vec::new(),
             record,
         }
@@ -98,9 +99,9 @@ impl Judge {
         let answer = match *event {
             Event::Reserve(len) => self.reserve(len),
             Event::Commit(len) => self.commit(len),
-            Event::Take(destination) => self.take(destination),
+            Event::Take { caller, destination } => self.take(caller, destination),
             Event::Truncate(len) => self.truncate(len),
-            Event::Release(serial) => self.release(serial),
+            Event::Release(name) => self.release(name),
             Event::Write { view, index, value } => self.write(view, index, value),
         };
         if answer.refusal == 0 && !past_end(event, &answer) {
@@ -151,8 +152,12 @@ impl Judge {
         Answer::place(self.frame_place())
     }
 
-    /// 6 if the frame lies in the overflow and is longer than the destination.
-    fn take(&mut self, destination: u64) -> Answer {
+    /// 12 if there is no such caller; then 6 if the frame lies in the overflow and is longer than the
+    /// destination. A pooled slice has its caller's next serial.
+    fn take(&mut self, caller: u8, destination: u64) -> Answer {
+        if usize::from(caller) >= CALLERS {
+            return Answer::refused(UNKNOWN_CALLER);
+        }
         let (start, len) = self.frame_place();
         if self.pool.is_alloc_mode() && len as u64 > destination {
             return Answer::refused(DESTINATION_TOO_SHORT);
@@ -163,8 +168,9 @@ impl Judge {
         match slot_of(&slice) {
             Some(slot) => {
                 assert_eq!(slice.as_ref().as_ptr(), self.base.wrapping_add(start));
-                self.serials += 1;
-                let held = Held { serial: self.serials, slice, start };
+                let serial = &mut self.serials[usize::from(caller)];
+                *serial += 1;
+                let held = Held { name: Name { caller, serial: *serial }, slice, start };
                 assert!(self.held[slot - 1].replace(held).is_none(), "the slot was free");
                 Answer::place((start, len))
             }
@@ -178,9 +184,9 @@ impl Judge {
         Answer::place(self.frame_place())
     }
 
-    /// 7 if no live slice has the serial.
-    fn release(&mut self, serial: u32) -> Answer {
-        match self.find(serial) {
+    /// 7 if no live slice has the name.
+    fn release(&mut self, name: Name) -> Answer {
+        match self.find(name) {
             Some(at) => {
                 let held = self.held[at].take().expect("found");
                 Answer::place((held.start, held.slice.len()))
@@ -190,7 +196,7 @@ impl Judge {
     }
 
     /// Writes one byte through a view, if the view reaches that far, and gives the view's place. A
-    /// serial that is not live has an empty view.
+    /// name that is not live has an empty view.
     fn write(&mut self, view: View, index: u64, value: u8) -> Answer {
         let place = self.view_place(view);
         if index < place.1 as u64 {
@@ -199,12 +205,12 @@ impl Judge {
         Answer::place(place)
     }
 
-    /// Start and length of a view; `0 0` for a serial that is not live.
+    /// Start and length of a view; `0 0` for a name that is not live.
     pub fn view_place(&self, view: View) -> (usize, usize) {
         match view {
             View::Reservation => (self.frame_end(), self.reserved),
             View::Frame => self.frame_place(),
-            View::Slice(serial) => match self.find(serial) {
+            View::Slice(name) => match self.find(name) {
                 Some(at) => self.held[at].as_ref().map(Held::place).expect("found"),
                 None => (0, 0),
             },
@@ -217,16 +223,16 @@ impl Judge {
                 std::slice::from_raw_parts_mut(self.offer, self.reserved)
             },
             View::Frame => self.pool.frame_mut(),
-            View::Slice(serial) => {
-                let at = self.find(serial).expect("a live serial");
+            View::Slice(name) => {
+                let at = self.find(name).expect("a live slice");
                 self.held[at].as_mut().expect("found").slice.as_mut()
             }
         }
     }
 
-    /// The index of the live slice with this serial.
-    fn find(&self, serial: u32) -> Option<usize> {
-        let has = |held: &Option<Held>| held.as_ref().is_some_and(|held| held.serial == serial);
+    /// The index of the live slice with this name.
+    fn find(&self, name: Name) -> Option<usize> {
+        let has = |held: &Option<Held>| held.as_ref().is_some_and(|held| held.name == name);
         self.held.iter().position(has)
     }
 
@@ -270,14 +276,20 @@ impl Judge {
         }
     }
 
-    /// The live serials, in slot order.
-    pub fn live_serials(&self) -> Vec<u32> {
-        self.held.iter().flatten().map(|held| held.serial).collect()
+    /// The names of the live slices, in slot order.
+    pub fn live_names(&self) -> Vec<Name> {
+        self.held.iter().flatten().map(|held| held.name).collect()
     }
 
-    /// How many serials were given.
-    pub fn serials(&self) -> u32 {
+    /// How many serials were given to each caller.
+    pub fn serials(&self) -> [u32; CALLERS] {
         self.serials
+    }
+
+    /// Whether a slice with this name was ever given, live or not.
+    pub fn was_given(&self, name: Name) -> bool {
+        let given = self.serials.get(usize::from(name.caller));
+        given.is_some_and(|&given| (1..=given).contains(&name.serial))
     }
 
     pub fn frame(&self) -> &[u8] {
@@ -294,10 +306,10 @@ impl Judge {
         (1..=SLOTS).zip(&self.held).filter_map(live)
     }
 
-    /// Serial, start and length of the live slice in slot `p`, of 1 to 8.
-    pub fn slice_place(&self, p: usize) -> Option<(u32, usize, usize)> {
+    /// Name, start and length of the live slice in slot `p`, of 1 to 8.
+    pub fn slice_place(&self, p: usize) -> Option<(Name, usize, usize)> {
         let held = self.held[p - 1].as_ref()?;
-        Some((held.serial, held.start, held.slice.len()))
+        Some((held.name, held.start, held.slice.len()))
     }
 
     /// Every byte of the pool memory.
@@ -309,9 +321,9 @@ impl Judge {
     pub fn again(&self) -> Judge {
         let mut twin = replay(self.capacity, &self.accepted);
         let mut held = |held: &Option<Held>| {
-            let Held { serial, start, .. } = *held.as_ref()?;
-            let slice = twin.slices[serial as usize - 1].take().expect("a live slice");
-            Some(Held { serial, slice, start })
+            let Held { name, start, .. } = *held.as_ref()?;
+            let slice = twin.slice(name).take().expect("a live slice");
+            Some(Held { name, slice, start })
         };
         Judge {
             held: std::array::from_fn(|at| held(&self.held[at])),
@@ -341,22 +353,22 @@ struct Twin {
     /// Where the pool memory starts, and the range last offered.
     base: *const u8,
     offer: *mut u8,
-    /// By serial.
-    slices: Vec<Option<Slice>>,
+    /// By caller, then by serial.
+    slices: [Vec<Option<Slice>>; CALLERS],
 }
 
 /// Does accepted calls and writes again on a new pool.
 fn replay(capacity: usize, accepted: &[Event]) -> Twin {
     let mut pool = Pool::new(capacity);
     let offer = pool.reserve(0).as_mut_ptr();
-    let mut twin = Twin { pool, base: offer, offer, slices: Vec::new() };
+    let mut twin = Twin { pool, base: offer, offer, slices: Default::default() };
     for event in accepted {
         match *event {
             Event::Reserve(len) => twin.offer = twin.pool.reserve(len as usize).as_mut_ptr(),
             Event::Commit(len) => twin.pool.commit(len as usize),
-            Event::Take(_) => twin.take(),
+            Event::Take { caller, .. } => twin.take(caller),
             Event::Truncate(len) => twin.pool.truncate(usize::try_from(len).unwrap_or(usize::MAX)),
-            Event::Release(serial) => twin.slices[serial as usize - 1] = None,
+            Event::Release(name) => *twin.slice(name) = None,
             Event::Write { view, index, value } => twin.write(view, index as usize, value),
         }
     }
@@ -364,13 +376,18 @@ fn replay(capacity: usize, accepted: &[Event]) -> Twin {
 }
 
 impl Twin {
-    /// Takes, and keeps a pooled slice under its serial.
-    fn take(&mut self) {
+    /// Takes, and keeps a pooled slice under its caller and serial.
+    fn take(&mut self, caller: u8) {
         let pooled = !self.pool.is_alloc_mode() && !self.pool.is_empty();
         let slice = self.pool.get_data_owned();
         if pooled {
-            self.slices.push(Some(slice));
+            self.slices[usize::from(caller)].push(Some(slice));
         }
+    }
+
+    /// The slice that was given with this name, if it is live.
+    fn slice(&mut self, name: Name) -> &mut Option<Slice> {
+        &mut self.slices[usize::from(name.caller)][name.serial as usize - 1]
     }
 
     /// Writes a byte that lies inside the view.
@@ -378,8 +395,8 @@ impl Twin {
         match view {
             View::Reservation => unsafe { *self.offer.add(index) = value },
             View::Frame => self.pool.frame_mut()[index] = value,
-            View::Slice(serial) => {
-                let slice = self.slices[serial as usize - 1].as_mut().expect("a live slice");
+            View::Slice(name) => {
+                let slice = self.slice(name).as_mut().expect("a live slice");
                 slice.as_mut()[index] = value;
             }
         }

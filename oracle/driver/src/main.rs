@@ -58,6 +58,7 @@ fn gen(seed: &str, count: &str, words: &[&str]) -> Result<(), String> {
         count: number(count)?,
         capacity: 40,
         events: 120,
+        callers: generate::Callers::All,
         cover: 0,
     };
     for pair in words.chunks(2) {

@@ -1,8 +1,8 @@
 //! Traces: written from a list, run on the Rust, and made good and damaged from a seed. The listing
 //! is that of docs/SPECIFICATION.md, 9 and 10.
 
-use crate::calls::{Event, List, View};
-use crate::generate;
+use crate::calls::{Event, List, Name, View, CALLERS};
+use crate::generate::{self, Callers};
 use crate::judge::Judge;
 use crate::random::Random;
 
@@ -12,7 +12,8 @@ const MEMORY_LIMIT: u32 = 16_384;
 pub const HEADER: usize = 24;
 pub const EVENT: usize = 8;
 
-/// The trace with the list's sizes and calls, and these bytes. Writes have no place in a trace.
+/// The trace with the list's sizes and calls, and these bytes. Writes have no place in a trace. A
+/// caller stands as the list names it: one above 3 makes a file that is refused with 10.
 pub fn encode(list: &List, bytes: &[u8]) -> Vec<u8> {
     let events: Vec<[u8; EVENT]> = list.events.iter().filter_map(event_bytes).collect();
     let count = events.len() as u32;
@@ -24,18 +25,18 @@ pub fn encode(list: &List, bytes: &[u8]) -> Vec<u8> {
     file
 }
 
-/// Kind, three zeros, number. A length above 32 bits becomes the longest.
+/// Kind, caller, two zeros, number. A length above 32 bits becomes the longest.
 fn event_bytes(event: &Event) -> Option<[u8; EVENT]> {
     let (kind, number) = match *event {
         Event::Reserve(len) => (1, len),
         Event::Commit(len) => (2, len),
-        Event::Take(_) => (3, 0),
+        Event::Take { .. } => (3, 0),
         Event::Truncate(len) => (4, len),
-        Event::Release(serial) => (5, u64::from(serial)),
+        Event::Release(name) => (5, u64::from(name.serial)),
         Event::Write { .. } => return None,
     };
     let number = (number.min(u64::from(u32::MAX)) as u32).to_le_bytes();
-    Some([kind, 0, 0, 0, number[0], number[1], number[2], number[3]])
+    Some([kind, event.caller(), 0, 0, number[0], number[1], number[2], number[3]])
 }
 
 /// Why a file is refused: 9, or 10 with the event counted from 1.
@@ -69,15 +70,18 @@ pub fn decode(file: &[u8]) -> Result<(List, &[u8]), Refusal> {
     Ok((List { capacity, overflow, events }, bytes))
 }
 
-/// The event, if it is one. A take's destination is as long as the overflow.
+/// The event, if it is one. A take's destination is as long as the overflow. Takes and releases have
+/// a caller, which is one of the four.
 fn decode_event(bytes: &[u8], overflow: u32) -> Option<Event> {
     let number = u32::from_le_bytes(bytes[4..].try_into().expect("four bytes"));
     match (bytes[0], &bytes[1..4], number) {
         (1, [0, 0, 0], len) => Some(Event::Reserve(len.into())),
         (2, [0, 0, 0], len) => Some(Event::Commit(len.into())),
-        (3, [0, 0, 0], 0) => Some(Event::Take(overflow.into())),
+        (3, &[caller @ 0..=3, 0, 0], 0) => {
+            Some(Event::Take { caller, destination: overflow.into() })
+        }
         (4, [0, 0, 0], len) => Some(Event::Truncate(len.into())),
-        (5, [0, 0, 0], serial) => Some(Event::Release(serial)),
+        (5, &[caller @ 0..=3, 0, 0], serial) => Some(Event::Release(Name { caller, serial })),
         _ => None,
     }
 }
@@ -110,7 +114,7 @@ fn run(list: &List, mut bytes: &[u8]) -> String {
             _ => 0,
         };
         refused += usize::from(answer.refusal != 0);
-        if matches!(event, Event::Take(_)) && answer.len > 0 {
+        if matches!(event, Event::Take { .. }) && answer.len > 0 {
             taken += 1;
             copied += usize::from(!answer.copied.is_empty());
         }
@@ -136,23 +140,34 @@ fn fill<'a>(judge: &mut Judge, len: u64, bytes: &'a [u8]) -> &'a [u8] {
 }
 
 /// The traces of a seed: two of full size, one without events, then lists of the generator, every
-/// second one damaged.
+/// second one damaged. The first of full size and two of every four after it have caller 0 alone, as
+/// traces had before callers were named.
 pub fn traces(seed: u64, count: u64) -> Vec<Vec<u8>> {
     let mut random = Random::new(seed);
-    let options = generate::Options { seed, count, capacity: 40, events: 120, cover: 0 };
-    let lists = generate::lists(&options);
+    let (old, new) = (lists(seed, count, Callers::First), lists(seed, count, Callers::All));
     let empty = List { capacity: 5, overflow: 3, events: Vec::new() };
     let mut files =
-        vec![full(&lists, 40, 1), full(&lists, MEMORY_LIMIT, 400), encode(&empty, b"unused")];
-    for (at, list) in lists.iter().enumerate() {
+        vec![full(&old, 40, 1), full(&new, MEMORY_LIMIT, 400), encode(&empty, b"unused")];
+    for (at, (old, new)) in old.iter().zip(&new).enumerate() {
         let bytes: Vec<u8> = (0..random.below(400)).map(|_| random.below(256) as u8).collect();
-        let mut file = encode(list, &bytes);
+        let mut file = encode(if at % 4 < 2 { old } else { new }, &bytes);
         if at % 2 == 1 {
             damage(&mut file, at / 2, &mut random);
         }
         files.push(file);
     }
     files
+}
+
+/// Lists of the generator, less the takes and releases by numbers that are no callers: these are
+/// refused, and a trace cannot have them.
+fn lists(seed: u64, count: u64, callers: Callers) -> Vec<List> {
+    let options = generate::Options { seed, count, capacity: 40, events: 120, callers, cover: 0 };
+    let mut lists = generate::lists(&options);
+    for list in &mut lists {
+        list.events.retain(|event| usize::from(event.caller()) < CALLERS);
+    }
+    lists
 }
 
 /// A trace of the longest file: memories of this length, the events of the lists one after the
@@ -170,11 +185,12 @@ fn full(lists: &[List], length: u32, times: u64) -> Vec<u8> {
     encode(&List { capacity: length, overflow: length, events }, &[])
 }
 
-/// Damages a file in the way of this number: header fields, its end, or one of its events.
+/// Damages a file in the way of this number: header fields, its end, or one of its events. The count
+/// of ways is odd, so that each meets traces of caller 0 and traces of all.
 fn damage(file: &mut Vec<u8>, way: usize, random: &mut Random) {
     let events = (file[8] as usize | (file[9] as usize) << 8).max(1);
     let event = HEADER + EVENT * random.below(events as u64) as usize;
-    let ways = 24;
+    let ways = 29;
     match way % ways {
         field @ 0..=11 => {
             let at = field / 2 * 4;
@@ -189,25 +205,40 @@ fn damage(file: &mut Vec<u8>, way: usize, random: &mut Random) {
         15 => file[..4].copy_from_slice(&(MEMORY_LIMIT + 1).to_le_bytes()),
         16 => file[4..8].copy_from_slice(&(MEMORY_LIMIT + 1).to_le_bytes()),
         17 => file.resize(FILE_LIMIT + 1, 0),
-        18 => set(file, event, 0),
-        19 => set(file, event, 6),
-        20 => set(file, event + random.within(1, 3) as usize, 1),
+        18 => set(file, event, &[0]),
+        19 => set(file, event, &[6]),
+        20 => set(file, event + random.within(2, 3) as usize, &[1]),
         21 => {
-            set(file, event, 3);
-            set(file, event + 4 + random.below(4) as usize, 1);
+            set(file, event, &[3]);
+            set(file, event + 4 + random.below(4) as usize, &[1]);
         }
         22 => {
-            set(file, event, 255);
+            set(file, event, &[255]);
             file.push(0);
         }
+        23 => set(file, event, &[3, none(random), 0, 0, 0, 0, 0, 0]),
+        24 => set(file, event, &[5, none(random), 0, 0]),
+        25 => set(file, event, &[1, any(random), 0, 0]),
+        26 => set(file, event, &[2, any(random), 0, 0]),
+        27 => set(file, event, &[4, any(random), 0, 0]),
         _ => file.clear(),
     }
 }
 
-/// Sets a byte, if the file reaches so far.
-fn set(file: &mut [u8], at: usize, value: u8) {
-    if let Some(byte) = file.get_mut(at) {
-        *byte = value;
+/// A number that is no caller.
+fn none(random: &mut Random) -> u8 {
+    random.pick(&[4, 4, 5, 7, 8, 0x80, 0xff])
+}
+
+/// A caller that is not 0, or a number that is no caller.
+fn any(random: &mut Random) -> u8 {
+    random.pick(&[1, 2, 3, 4, 0xff])
+}
+
+/// Sets bytes, if the file reaches so far.
+fn set(file: &mut [u8], at: usize, values: &[u8]) {
+    if let Some(bytes) = file.get_mut(at..at + values.len()) {
+        bytes.copy_from_slice(values);
     }
 }
 
@@ -229,6 +260,48 @@ mod tests {
         assert_eq!(listing(&example()), crate::cases::LISTING);
     }
 
+    /// Each caller's serials start at 1, and a release finds the slice by caller and serial: the
+    /// one that caller 3 took is released by 3 alone.
+    #[test]
+    fn a_trace_of_two_callers() {
+        let list = text::parse(
+            "pool 8 overflow 8
+             r 2; c 2; t; r 3; c 3; t by 3; d 1 by 1; d 1 by 3; d 1 by 3; d 1",
+        );
+        let file = encode(&list.expect("a good text")[0], b"");
+        let due = "\
+pool 8 overflow 8
+1 r 0 B 00 0 2 0
+2 c 0 B 00 0 2 0
+3 t 0 B 80 0 2 0
+4 r 0 B 80 2 3 0
+5 c 0 B 80 2 3 0
+6 t 0 B c0 2 3 0
+7 d 7 B c0 0 0 0
+8 d 0 B 80 2 3 0
+9 d 7 B 80 0 0 0
+10 d 0 B 00 0 2 0
+T 8 2 0 0
+";
+        assert_eq!(listing(&file), due);
+    }
+
+    /// Of the traces from a seed those that are not damaged are read, half of them as traces of caller
+    /// 0 alone.
+    #[test]
+    fn traces_with_and_without_callers() {
+        let of_callers = |file: &Vec<u8>| {
+            let (list, _) = decode(file).expect("a good trace");
+            list.events.iter().any(|event| event.caller() > 0)
+        };
+        let files = traces(4, 200);
+        assert_eq!((files.len(), of_callers(&files[0]), of_callers(&files[1])), (203, false, true));
+        let good = files[3..].iter().step_by(2);
+        let named = good.enumerate().filter(|(_, file)| of_callers(file));
+        let named: Vec<usize> = named.map(|(at, _)| at).collect();
+        assert!(named.len() > 40 && named.iter().all(|at| at % 2 == 1));
+    }
+
     #[test]
     fn every_damage_to_the_file_is_9_and_to_an_event_10() {
         let refused = |at: usize, byte: u8| {
@@ -241,6 +314,11 @@ mod tests {
         }
         for at in [24, 25, 26, 27] {
             assert_eq!(refused(at, 9), "refused 10 1\n", "byte {at}");
+        }
+        // A caller on a reserve, a commit and a truncate; none on a take and a release.
+        for (event, caller) in [(1, 1), (2, 3), (9, 2), (3, 4), (11, 4), (11, 255)] {
+            let due = format!("refused 10 {event}\n");
+            assert_eq!(refused(24 + 8 * (event - 1) + 1, caller), due);
         }
         assert_eq!(refused(24 + 2 * 8 + 7, 1), "refused 10 3\n");
         assert_eq!(listing(&example()[..121]), "refused 9\n");

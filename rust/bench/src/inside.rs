@@ -9,7 +9,7 @@ const ROUNDS: usize = 20_000;
 const FRAME: usize = 16;
 
 extern "C" {
-    /// So many rounds on a new pool; gives how many serials were given.
+    /// So many rounds on a new pool, by caller 0; gives how many serials it was given.
     fn pool_bench_rounds(
         pool: *mut u8,
         pool_len: usize,

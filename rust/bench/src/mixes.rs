@@ -1,8 +1,8 @@
-//! The mixes of calls that are timed.
+//! The mixes of calls that are timed. Caller 0 makes all of them.
 
 use crate::sides::{Kept, Side, NOT_KEPT};
-use oracle::calls::{Event, List};
-use oracle::generate::Author;
+use oracle::calls::{Event, List, Name};
+use oracle::generate::{Author, Callers};
 use oracle::judge::Judge;
 use oracle::random::Random;
 use oracle::record::SLOTS;
@@ -59,8 +59,8 @@ pub struct Mix {
 struct Draft {
     mix: Mix,
     judge: Judge,
-    /// The serial kept in each place.
-    kept: [Option<u32>; SLOTS],
+    /// The name of the slice kept in each place.
+    kept: [Option<Name>; SLOTS],
 }
 
 impl Draft {
@@ -72,9 +72,19 @@ impl Draft {
         }
     }
 
+    /// Adds a take.
+    fn take(&mut self, destination: usize) {
+        self.add(Event::Take { caller: CALLER, destination: destination as u64 });
+    }
+
+    /// The name of the slice that was taken last.
+    fn last(&self) -> Name {
+        Name { caller: CALLER, serial: self.judge.serials()[usize::from(CALLER)] }
+    }
+
     /// Adds an event, unless the Rust's judge refuses it.
     fn add(&mut self, event: Event) {
-        let serials = self.judge.serials();
+        let last = self.last();
         if self.judge.apply(&event).refusal != 0 {
             return;
         }
@@ -86,15 +96,15 @@ impl Draft {
             }
             Event::Commit(n) => Step::Commit(n as usize),
             Event::Truncate(n) => Step::Truncate(n as usize),
-            Event::Take(_) if self.judge.serials() == serials => Step::Take(NOT_KEPT),
-            Event::Take(_) => {
+            Event::Take { .. } if self.last() == last => Step::Take(NOT_KEPT),
+            Event::Take { .. } => {
                 let free = self.kept.iter().position(Option::is_none).expect("eight slots");
-                self.kept[free] = Some(serials + 1);
+                self.kept[free] = Some(self.last());
                 Step::Take(free)
             }
-            Event::Release(serial) => {
-                let at = self.kept.iter().position(|&kept| kept == Some(serial));
-                let at = at.expect("a live serial");
+            Event::Release(name) => {
+                let at = self.kept.iter().position(|&kept| kept == Some(name));
+                let at = at.expect("a live slice");
                 self.kept[at] = None;
                 Step::Release(at)
             }
@@ -112,18 +122,21 @@ impl Draft {
     /// Reserves, commits and takes.
     fn entry(&mut self, len: usize) {
         self.gather(len);
-        self.add(Event::Take(self.mix.overflow as u64));
+        self.take(self.mix.overflow);
     }
 
     /// Releases the live slices of some slots.
     fn release(&mut self, slots: std::ops::RangeInclusive<usize>) {
         for p in slots {
-            if let Some((serial, ..)) = self.judge.slice_place(p) {
-                self.add(Event::Release(serial));
+            if let Some((name, ..)) = self.judge.slice_place(p) {
+                self.add(Event::Release(name));
             }
         }
     }
 }
+
+/// Who takes.
+const CALLER: u8 = 0;
 
 /// The length of a small entry.
 const ENTRY: usize = 32;
@@ -147,7 +160,7 @@ fn back_truncated() -> Mix {
     for _ in 0..2000 {
         draft.gather(ENTRY);
         draft.add(Event::Truncate(ENTRY as u64 / 2));
-        draft.add(Event::Take(0));
+        draft.take(0);
         draft.release(1..=8);
     }
     draft.mix
@@ -164,10 +177,10 @@ fn ring_of_eight() -> Mix {
                 draft.add(Event::Release(oldest));
             }
         }
-        let serials = draft.judge.serials();
+        let before = draft.last();
         draft.entry(ENTRY);
-        let pooled = draft.judge.serials() > serials;
-        ring.push_back(pooled.then_some(serials + 1));
+        let last = draft.last();
+        ring.push_back((last != before).then_some(last));
     }
     draft.mix
 }
@@ -242,7 +255,7 @@ fn longest_trace(capacity: u32, overflow: u32) -> Vec<u8> {
     let mut list = List { capacity, overflow, events: Vec::new() };
     let mut judge = Judge::new(capacity, overflow);
     let mut random = Random::new(1);
-    let mut author = Author::new(&mut random, capacity);
+    let mut author = Author::new(&mut random, capacity, Callers::First);
     while list.events.len() < events {
         let event = author.choose(&judge);
         judge.apply(&event);

@@ -69,7 +69,7 @@ impl Side for Rust {
     }
 }
 
-/// The port, across the C interface.
+/// The port, across the C interface. Caller 0 takes.
 pub struct Port {
     record: Record,
     pool: Box<[u8]>,
@@ -156,6 +156,7 @@ impl Side for Port {
                 pool.len(),
                 overflow.as_mut_ptr(),
                 overflow.len(),
+                0,
                 self.destination.as_mut_ptr(),
                 self.destination.len(),
             )

@@ -1,10 +1,11 @@
 //! The proved frame pool, with types that make its misuse hard.
 //!
 //! Frames of bytes are gathered in one lent memory, handed out as slices, and released in any
-//! order; a second lent memory, the overflow, takes what does not fit. The pool's code is proved to
-//! meet its contracts (docs/PROVED.md of the repository) and is linked as an archive. What this crate
-//! adds to a call is the step from places to slices of bytes and, where a [`Slice`] comes back, the
-//! comparison of one address.
+//! order; a second lent memory, the overflow, takes what does not fit. Four callers, 0 to 3, can share
+//! a pool, and each has serials of its own for what it takes. The pool's code is proved to meet its
+//! contracts (docs/PROVED.md of the repository) and is linked as an archive. What this crate adds to a
+//! call is the step from places to slices of bytes and, where a [`Slice`] comes back, the comparison of
+//! one address.
 //!
 //! What the types rule out:
 //!
@@ -32,7 +33,7 @@
 //! log.reserve(entry.len())?.bytes.copy_from_slice(entry);
 //! log.commit(entry.len())?;
 //!
-//! match log.take(&mut [0; 32])? {
+//! match log.take(0, &mut [0; 32])? {
 //!     Taken::Slice(slice) => {
 //!         assert_eq!(log.slice(&slice)?, entry);
 //!         log.release(slice).map_err(|(_, refusal)| refusal)?;
@@ -52,7 +53,7 @@
 //! let mut first = Pool::new(&mut memory, &mut overflow).unwrap();
 //! first.reserve(1).unwrap();
 //! first.commit(1).unwrap();
-//! let taken = first.take(&mut []).unwrap();
+//! let taken = first.take(0, &mut []).unwrap();
 //! let mut second = Pool::new(&mut memory, &mut overflow).unwrap();
 //! if let Taken::Slice(slice) = taken {
 //!     let _ = second.release(slice);
@@ -127,8 +128,8 @@ pub struct Slice<'m> {
 }
 
 impl Slice<'_> {
-    /// Start, length, serial and slot, to be logged. Two entries of a log that have the same are
-    /// the same slice.
+    /// Start, length, serial, slot and caller, to be logged. Two entries of a log that have the same
+    /// caller and serial are the same slice; a serial alone may be that of several callers.
     pub fn handle(&self) -> raw::Handle {
         self.handle
     }
@@ -210,12 +211,13 @@ impl<'m> Pool<'m> {
         Ok(placed.place)
     }
 
-    /// Finishes the frame: gives the slice that holds it, or copies it to the start of `destination`
-    /// if it lies in the overflow. The reservation is spent.
+    /// Finishes the frame for a caller, 0 to 3: gives the slice that holds it, with the caller's next
+    /// serial, or copies it to the start of `destination` if it lies in the overflow. The reservation
+    /// is spent.
     ///
-    /// Refuses with [`Refusal::DestinationTooShort`] and [`Refusal::NoSerials`]; then frame,
-    /// reservation and destination stay.
-    pub fn take(&mut self, destination: &mut [u8]) -> Result<Taken<'m>, Refusal> {
+    /// Refuses with [`Refusal::UnknownCaller`], [`Refusal::DestinationTooShort`] and
+    /// [`Refusal::NoSerials`]; then frame, reservation and destination stay.
+    pub fn take(&mut self, caller: u64, destination: &mut [u8]) -> Result<Taken<'m>, Refusal> {
         // SAFETY: as in `reserve`; the destination is borrowed mutably, so it is apart from both
         // memories.
         let taken = unsafe {
@@ -225,6 +227,7 @@ impl<'m> Pool<'m> {
                 self.memory.len(),
                 self.overflow.as_mut_ptr(),
                 self.overflow.len(),
+                caller,
                 destination.as_mut_ptr(),
                 destination.len(),
             )

@@ -9,9 +9,9 @@
 use core::mem::{offset_of, size_of};
 
 /// The numbers of [`Record::mode`]. Any other number is refused with 1.
-pub const BACK: u16 = 0;
-pub const FRONT: u16 = 1;
-pub const OVERFLOW: u16 = 2;
+pub const BACK: u32 = 0;
+pub const FRONT: u32 = 1;
+pub const OVERFLOW: u32 = 2;
 
 /// The numbers of [`Place::memory`].
 pub const POOL_MEMORY: u64 = 0;
@@ -19,6 +19,9 @@ pub const OVERFLOW_MEMORY: u64 = 1;
 
 /// How many slices can live in a pool.
 pub const SLOTS: usize = 8;
+
+/// How many callers can take: 0 to 3.
+pub const CALLERS: usize = 4;
 
 /// The most bytes that either memory may have.
 pub const BYTE_LIMIT: usize = 1_048_576;
@@ -34,12 +37,14 @@ pub struct Record {
     pub starts: [u32; SLOTS],
     pub lengths: [u32; SLOTS],
     pub serials: [u32; SLOTS],
-    /// Serials given.
-    pub given: u32,
+    /// Serials given to each caller.
+    pub given: [u32; CALLERS],
+    /// The caller of the slice that was last taken in each slot.
+    pub callers: [u8; SLOTS],
     /// Slot `p`, of 1 to 8, is live if the bit 0x80 shifted right by `p - 1` is set. Any other bit is
     /// refused with 1.
-    pub live: u16,
-    pub mode: u16,
+    pub live: u32,
+    pub mode: u32,
     /// The back: the slots before it, and its own.
     pub back_start: usize,
     pub back_len: usize,
@@ -68,14 +73,16 @@ pub struct Place {
     pub memory: u64,
 }
 
-/// Names a slice.
+/// Names a slice. Two live slices may have one serial under two callers: handles are compared whole.
 #[repr(C)]
 #[derive(Clone, Copy, Debug, Default, PartialEq, Eq)]
 pub struct Handle {
     pub start: u32,
     pub length: u32,
+    /// 1, 2, 3, .. over the takes of its caller that gave a slice.
     pub serial: u32,
-    pub slot: u32,
+    pub slot: u16,
+    pub caller: u16,
 }
 
 /// What [`buffer_pool_reserve`] gives.
@@ -153,6 +160,7 @@ extern "C" {
         pool_len: usize,
         overflow: *mut u8,
         overflow_len: usize,
+        caller: u64,
         destination: *mut u8,
         destination_len: usize,
     ) -> Taken;
@@ -217,13 +225,14 @@ macro_rules! layout {
     };
 }
 
-layout!(Record, 208:
-    0 capacity, 8 overflow, 16 starts, 48 lengths, 80 serials, 112 given, 116 live, 118 mode,
-    120 back_start, 128 back_len, 136 used, 144 raw_offset, 152 raw_len, 160 front_back_start,
-    168 front_byte_capacity, 176 front_len, 184 kept, 192 cursor, 200 reserved);
+layout!(Record, 232:
+    0 capacity, 8 overflow, 16 starts, 48 lengths, 80 serials, 112 given, 128 callers, 136 live,
+    140 mode, 144 back_start, 152 back_len, 160 used, 168 raw_offset, 176 raw_len,
+    184 front_back_start, 192 front_byte_capacity, 200 front_len, 208 kept, 216 cursor,
+    224 reserved);
 layout!(Place, 24: 0 start, 8 length, 16 memory);
-layout!(Handle, 16: 0 start, 4 length, 8 serial, 12 slot);
+layout!(Handle, 16: 0 start, 4 length, 8 serial, 12 slot, 14 caller);
 layout!(Reserved, 40: 0 place, 24 changes, 32 refusal);
 layout!(Placed, 32: 0 place, 24 refusal);
 layout!(Taken, 32: 0 handle, 16 copied, 24 refusal);
-layout!(Created, 216: 0 record, 208 refusal);
+layout!(Created, 240: 0 record, 232 refusal);

@@ -23,8 +23,10 @@ pub enum Refusal {
     DestinationTooShort = 6,
     /// Release or view: the handle names no live slice of this pool.
     NotLive = 7,
-    /// Take: all 4,294,967,295 serials were given.
+    /// Take: all 4,294,967,295 serials of the caller were given.
     NoSerials = 8,
+    /// Take: the caller is above 3. This comes before 6 and 8, and for an empty frame too.
+    UnknownCaller = 12,
 }
 
 impl Refusal {
@@ -44,11 +46,12 @@ impl Refusal {
             6 => Refusal::DestinationTooShort,
             7 => Refusal::NotLive,
             8 => Refusal::NoSerials,
+            12 => Refusal::UnknownCaller,
             _ => return None,
         })
     }
 
-    /// `Ok` for 0, which says that a call was done. The calls give no number above 8.
+    /// `Ok` for 0, which says that a call was done. The calls give no number but these.
     pub(crate) fn check(number: u64) -> Result<(), Refusal> {
         match u8::try_from(number).ok().and_then(Refusal::from_number) {
             Some(refusal) => Err(refusal),
@@ -70,7 +73,8 @@ impl fmt::Display for Refusal {
             Refusal::CommitTooLong => "the commit exceeds the reservation",
             Refusal::DestinationTooShort => "the frame is longer than the destination",
             Refusal::NotLive => "the handle names no live slice of this pool",
-            Refusal::NoSerials => "all serials were given",
+            Refusal::NoSerials => "all serials of the caller were given",
+            Refusal::UnknownCaller => "the caller is above 3",
         };
         write!(f, "refusal {}: {cause}", self.number())
     }

@@ -1,22 +1,34 @@
 //! The wrapper, on the linked archive. Expected values are those of docs/SPECIFICATION.md.
 
 use crate::{raw, Mode, Pool, Refusal, Slice, Taken};
+use core::marker::PhantomData;
 use std::string::ToString;
 use std::vec::Vec;
 
-/// Reserves, writes, commits and takes one entry.
-fn entry<'m>(pool: &mut Pool<'m>, bytes: &[u8]) -> Taken<'m> {
+/// Reserves, writes and commits one entry.
+fn gather(pool: &mut Pool, bytes: &[u8]) {
     pool.reserve(bytes.len()).unwrap().bytes.copy_from_slice(bytes);
     pool.commit(bytes.len()).unwrap();
-    pool.take(&mut [0; 32]).unwrap()
 }
 
-/// The same, for an entry that stays in the pool.
-fn pooled<'m>(pool: &mut Pool<'m>, bytes: &[u8]) -> Slice<'m> {
-    match entry(pool, bytes) {
+/// The same, and takes it for a caller, where it stays in the pool.
+fn pooled_by<'m>(pool: &mut Pool<'m>, caller: u64, bytes: &[u8]) -> Slice<'m> {
+    gather(pool, bytes);
+    match pool.take(caller, &mut [0; 32]).unwrap() {
         Taken::Slice(slice) => slice,
         Taken::Copied(_) => panic!("the pool has room"),
     }
+}
+
+/// The same for caller 0.
+fn pooled<'m>(pool: &mut Pool<'m>, bytes: &[u8]) -> Slice<'m> {
+    pooled_by(pool, 0, bytes)
+}
+
+/// A slice with another caller in its handle, which no call gives.
+fn of_caller<'m>(slice: &Slice<'m>, caller: u16) -> Slice<'m> {
+    let handle = raw::Handle { caller, ..slice.handle };
+    Slice { handle, home: slice.home, memories: PhantomData }
 }
 
 #[test]
@@ -31,8 +43,8 @@ fn an_entry_is_written_taken_read_and_released() {
     assert_eq!(pool.commit(6).unwrap().length, 6);
     assert_eq!((pool.frame(), pool.reservation()), (&b"page 7"[..], &b""[..]));
     pool.frame_mut()[5] = b'8';
-    let Ok(Taken::Slice(slice)) = pool.take(&mut []) else { panic!("the pool has room") };
-    let handle = raw::Handle { start: 0, length: 6, serial: 1, slot: 1 };
+    let Ok(Taken::Slice(slice)) = pool.take(3, &mut []) else { panic!("the pool has room") };
+    let handle = raw::Handle { start: 0, length: 6, serial: 1, slot: 1, caller: 3 };
     assert_eq!((slice.handle(), pool.record().live), (handle, 0x80));
     pool.slice_mut(&slice).unwrap()[0] = b'P';
     assert_eq!(pool.slice(&slice).unwrap(), b"Page 8");
@@ -72,9 +84,72 @@ fn an_entry_of_the_overflow_is_copied() {
     assert_eq!(pool.mode(), Mode::Overflow);
     pool.commit(8).unwrap();
     let mut destination = [b'.'; 9];
-    assert_eq!(pool.take(&mut destination[..7]).unwrap_err(), Refusal::DestinationTooShort);
-    assert!(matches!(pool.take(&mut destination), Ok(Taken::Copied(8))));
+    assert_eq!(pool.take(0, &mut destination[..7]).unwrap_err(), Refusal::DestinationTooShort);
+    assert!(matches!(pool.take(0, &mut destination), Ok(Taken::Copied(8))));
     assert_eq!(&destination, b"largetxt.");
+}
+
+#[test]
+fn every_caller_has_serials_from_1() {
+    let (mut memory, mut overflow) = ([0; 16], [0; 16]);
+    let mut pool = Pool::new(&mut memory, &mut overflow).unwrap();
+    let names = [0, 3, 3, 0, 1].map(|caller| {
+        let handle = pooled_by(&mut pool, caller, b"it").handle();
+        (handle.caller, handle.serial)
+    });
+    assert_eq!(names, [(0, 1), (3, 1), (3, 2), (0, 2), (1, 1)]);
+    assert_eq!(pool.record().given, [2, 1, 0, 2]);
+    assert_eq!(pool.record().callers, [0, 3, 3, 0, 1, 0, 0, 0]);
+}
+
+#[test]
+fn one_serial_of_two_callers_names_two_slices() {
+    let (mut memory, mut overflow) = ([0; 16], [0; 16]);
+    let mut pool = Pool::new(&mut memory, &mut overflow).unwrap();
+    let turn = pooled_by(&mut pool, 0, b"turn");
+    let crash = pooled_by(&mut pool, 1, b"crash");
+    assert_eq!(turn.handle().serial, crash.handle().serial);
+    assert_eq!((pool.slice(&turn), pool.slice(&crash)), (Ok(&b"turn"[..]), Ok(&b"crash"[..])));
+    pool.slice_mut(&crash).unwrap()[0] = b'C';
+    assert!(pool.release(turn).is_ok());
+    assert_eq!((pool.record().live, pool.slice(&crash)), (0x40, Ok(&b"Crash"[..])));
+    assert!(pool.release(crash).is_ok());
+    assert_eq!(pool.record().live, 0);
+}
+
+#[test]
+fn a_handle_of_another_caller_is_refused() {
+    let (mut memory, mut overflow) = ([0; 16], [0; 16]);
+    let mut pool = Pool::new(&mut memory, &mut overflow).unwrap();
+    let own = pooled_by(&mut pool, 1, b"own");
+    for caller in [0, 2, 3, 4, 5, 255, 256, 257, 65535] {
+        let other = of_caller(&own, caller);
+        assert_eq!(pool.slice(&other), Err(Refusal::NotLive));
+        assert_eq!(pool.release(other).unwrap_err().1, Refusal::NotLive);
+    }
+    assert!(pool.release(of_caller(&own, 1)).is_ok());
+}
+
+#[test]
+fn a_caller_above_3_is_refused() {
+    let (mut memory, mut overflow) = ([0; 4], [0; 8]);
+    let mut pool = Pool::new(&mut memory, &mut overflow).unwrap();
+    let refused = |pool: &mut Pool| {
+        let before = *pool.record().as_bytes();
+        for caller in [4, 5, 256, 1 << 32, u64::MAX] {
+            assert_eq!(pool.take(caller, &mut []).unwrap_err(), Refusal::UnknownCaller);
+            assert_eq!(pool.record().as_bytes(), &before);
+        }
+    };
+    // An empty frame, one in the pool, and one in the overflow that the destination is too short for.
+    refused(&mut pool);
+    gather(&mut pool, b"log");
+    refused(&mut pool);
+    gather(&mut pool, b"more");
+    assert_eq!(pool.mode(), Mode::Overflow);
+    refused(&mut pool);
+    assert_eq!(pool.take(3, &mut []).unwrap_err(), Refusal::DestinationTooShort);
+    assert!(matches!(pool.take(3, &mut [0; 7]), Ok(Taken::Copied(7))));
 }
 
 #[test]
@@ -119,10 +194,10 @@ fn memories_up_to_the_limit() {
 
 #[test]
 fn the_numbers_of_refusals() {
-    for number in 1..=8 {
+    for number in (1..=8).chain([12]) {
         let refusal = Refusal::from_number(number).unwrap();
         assert_eq!(refusal.number(), number);
         assert!(refusal.to_string().starts_with(&std::format!("refusal {number}: ")));
     }
-    assert!([0, 9, 255].iter().all(|&number| Refusal::from_number(number).is_none()));
+    assert!([0, 9, 10, 11, 13, 255].iter().all(|&number| Refusal::from_number(number).is_none()));
 }

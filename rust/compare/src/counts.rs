@@ -7,8 +7,8 @@ use oracle::classes::{memories, Tally};
 pub const KINDS: [&str; 8] =
     ["reserve", "commit", "truncate", "take", "release", "frame", "reservation", "slice"];
 
-/// Numbers of refusal, with 0 for a call that was done.
-const REFUSALS: usize = 9;
+/// Numbers of refusal up to 12, with 0 for a call that was done.
+const REFUSALS: usize = 13;
 
 /// Calls by kind and refusal, writes, lists, and the classes that were reached.
 pub struct Counts {
@@ -42,7 +42,7 @@ impl Counts {
             Event::Reserve(_) => 0,
             Event::Commit(_) => 1,
             Event::Truncate(_) => 2,
-            Event::Take(_) => 3,
+            Event::Take { .. } => 3,
             Event::Release(_) => 4,
             Event::Write { .. } => {
                 self.writes += 1;

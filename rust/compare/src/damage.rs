@@ -10,15 +10,18 @@ use crate::model::{self, Call};
 use crate::port::Port;
 use crate::shrink::Disagreement;
 use crate::state::State;
-use buffer_pool::raw::{Created, Handle, Record, BYTE_LIMIT, SLOTS};
+use buffer_pool::raw::{Created, Handle, Record, BYTE_LIMIT, CALLERS, SLOTS};
 use oracle::random::Random;
 
-/// The fields of a record, as `set` numbers them: 16 of their own, then three arrays.
-const FIELDS: usize = 16 + 3 * SLOTS;
+/// The fields of a record, as `set` numbers them: 15 of their own, then what each slot has, then the
+/// serials given to each caller.
+const OWN: usize = 15;
+const GIVEN: usize = OWN + 4 * SLOTS;
+const FIELDS: usize = GIVEN + CALLERS;
 
-/// The fields of 16 bits: a number above one byte is refused with 1.
-const LIVE: usize = 3;
-const MODE: usize = 4;
+/// The fields of 32 bits of which one byte is used: a number above it is refused with 1.
+const LIVE: usize = 2;
+const MODE: usize = 3;
 
 /// The longest memory that is lent to fit a damaged length.
 const LENT: u64 = 4096;
@@ -28,24 +31,28 @@ fn set(r: &mut Record, field: usize, value: u64) {
     match field {
         0 => r.capacity = value,
         1 => r.overflow = value,
-        2 => r.given = value as u32,
-        LIVE => r.live = value as u16,
-        MODE => r.mode = value as u16,
-        5 => r.back_start = value as usize,
-        6 => r.back_len = value as usize,
-        7 => r.used = value as usize,
-        8 => r.raw_offset = value,
-        9 => r.raw_len = value,
-        10 => r.front_back_start = value as usize,
-        11 => r.front_byte_capacity = value,
-        12 => r.front_len = value as usize,
-        13 => r.kept = value,
-        14 => r.cursor = value,
-        15 => r.reserved = value,
+        LIVE => r.live = value as u32,
+        MODE => r.mode = value as u32,
+        4 => r.back_start = value as usize,
+        5 => r.back_len = value as usize,
+        6 => r.used = value as usize,
+        7 => r.raw_offset = value,
+        8 => r.raw_len = value,
+        9 => r.front_back_start = value as usize,
+        10 => r.front_byte_capacity = value,
+        11 => r.front_len = value as usize,
+        12 => r.kept = value,
+        13 => r.cursor = value,
+        14 => r.reserved = value,
+        GIVEN.. => r.given[field - GIVEN] = value as u32,
         _ => {
-            let arrays = [&mut r.starts, &mut r.lengths, &mut r.serials];
-            let at = field - 16;
-            arrays.into_iter().nth(at / SLOTS).expect("a field")[at % SLOTS] = value as u32;
+            let at = (field - OWN) % SLOTS;
+            match (field - OWN) / SLOTS {
+                0 => r.starts[at] = value as u32,
+                1 => r.lengths[at] = value as u32,
+                2 => r.serials[at] = value as u32,
+                _ => r.callers[at] = value as u8,
+            }
         }
     }
 }
@@ -55,21 +62,29 @@ fn get(r: &Record, field: usize) -> u64 {
     match field {
         0 => r.capacity,
         1 => r.overflow,
-        2 => r.given.into(),
         LIVE => r.live.into(),
         MODE => r.mode.into(),
-        5 => r.back_start as u64,
-        6 => r.back_len as u64,
-        7 => r.used as u64,
-        8 => r.raw_offset,
-        9 => r.raw_len,
-        10 => r.front_back_start as u64,
-        11 => r.front_byte_capacity,
-        12 => r.front_len as u64,
-        13 => r.kept,
-        14 => r.cursor,
-        15 => r.reserved,
-        _ => [r.starts, r.lengths, r.serials][(field - 16) / SLOTS][(field - 16) % SLOTS].into(),
+        4 => r.back_start as u64,
+        5 => r.back_len as u64,
+        6 => r.used as u64,
+        7 => r.raw_offset,
+        8 => r.raw_len,
+        9 => r.front_back_start as u64,
+        10 => r.front_byte_capacity,
+        11 => r.front_len as u64,
+        12 => r.kept,
+        13 => r.cursor,
+        14 => r.reserved,
+        GIVEN.. => r.given[field - GIVEN].into(),
+        _ => {
+            let at = (field - OWN) % SLOTS;
+            match (field - OWN) / SLOTS {
+                0 => r.starts[at].into(),
+                1 => r.lengths[at].into(),
+                2 => r.serials[at].into(),
+                _ => r.callers[at].into(),
+            }
+        }
     }
 }
 
@@ -77,7 +92,8 @@ fn get(r: &Record, field: usize) -> u64 {
 fn edges(r: &Record, value: u64) -> Vec<u64> {
     let limit = BYTE_LIMIT as u64;
     let near = |n: u64| [n.wrapping_sub(1), n, n.wrapping_add(1)];
-    let mut edges: Vec<u64> = [value, r.capacity, r.overflow, r.kept, limit, SLOTS as u64]
+    let (slots, callers) = (SLOTS as u64, CALLERS as u64);
+    let mut edges: Vec<u64> = [value, r.capacity, r.overflow, r.kept, limit, slots, callers]
         .into_iter()
         .flat_map(near)
         .collect();
@@ -94,19 +110,22 @@ fn value(r: &Record, field: usize, random: &mut Random) -> u64 {
     random.weighed(&[(6, edge), (3, small), (1, any)])
 }
 
-/// Each kind of call once, with numbers near its edges.
-fn calls(r: &Record, random: &mut Random) -> [Call; 8] {
+/// Each kind of call once, with numbers near its edges; of takes one by a caller and one by any number.
+fn calls(r: &Record, random: &mut Random) -> [Call; 9] {
     let number = |own: u64, random: &mut Random| {
         let edge = random.pick(&edges(r, own));
         let small = random.below(6);
         random.weighed(&[(2, edge), (3, small)])
     };
     let destination = random.pick(&[r.cursor, r.cursor.wrapping_sub(1), r.overflow, 0]);
+    let destination = destination.min(LENT) as usize;
+    let take = |caller: u64| Call::Take { caller, destination };
     [
         Call::Reserve(number(r.capacity.wrapping_sub(r.raw_offset), random)),
         Call::Commit(number(r.reserved, random)),
         Call::Truncate(number(r.raw_len, random)),
-        Call::Take(destination.min(LENT) as usize),
+        take(random.below(CALLERS as u64)),
+        take(caller(random)),
         Call::Release(handle(r, random)),
         Call::Frame,
         Call::Reservation,
@@ -114,29 +133,43 @@ fn calls(r: &Record, random: &mut Random) -> [Call; 8] {
     ]
 }
 
+/// A caller, or a number beside them that is none: also one whose low bits are a caller's.
+fn caller(random: &mut Random) -> u64 {
+    let near = random.below(CALLERS as u64 + 2);
+    let shift = random.pick(&[8, 16, 31, 32, 33, 48, 63]);
+    let wide = random.below(CALLERS as u64) | 1 << shift;
+    random.weighed(&[(4, near), (2, wide), (1, u64::MAX)])
+}
+
 /// The handle of a slot, and mostly one number of it changed.
 fn handle(r: &Record, random: &mut Random) -> Handle {
     let at = random.below(SLOTS as u64) as usize;
     let (start, length, serial) = (r.starts[at], r.lengths[at], r.serials[at]);
-    let h = Handle { start, length, serial, slot: at as u32 + 1 };
+    let (slot, caller) = (at as u16 + 1, u16::from(r.callers[at]));
+    let h = Handle { start, length, serial, slot, caller };
     let other = |n: u32, random: &mut Random| {
         random.pick(&[n.wrapping_add(1), n.wrapping_sub(1), n ^ 1 << 31, 0, u32::MAX])
     };
-    let near = random.pick(&[0, 1, 8, 9, 255, 256, h.slot + 1, h.slot ^ 0x10]);
-    let wide = random.pick(&[h.slot | 0x100, h.slot << 8, h.slot | 1 << 16, h.slot | 1 << 31, !0]);
-    match random.below(8) {
+    let near = random.pick(&[0, 1, 8, 9, 255, 256, slot + 1, slot ^ 0x10]);
+    let wide = |n: u16, random: &mut Random| {
+        random.pick(&[n | 0x100, n << 8, n | 1 << 12, n | 1 << 15, !0])
+    };
+    match random.below(12) {
         0 => Handle { start: other(start, random), ..h },
         1 => Handle { length: other(length, random), ..h },
         2 => Handle { serial: other(serial, random), ..h },
         3 => Handle { slot: near, ..h },
-        4 => Handle { slot: wide, ..h },
+        4 => Handle { slot: wide(slot, random), ..h },
+        5 => Handle { caller: random.below(CALLERS as u64 + 2) as u16, ..h },
+        6 => Handle { caller: caller ^ random.pick(&[1, 2, 3, 4]), ..h },
+        7 => Handle { caller: wide(caller, random), ..h },
         _ => h,
     }
 }
 
 /// Does a call on a copy of the state and compares what comes out with what is due.
 fn check(state: &State, call: &Call, counts: &mut Counts) -> Result<(), Disagreement> {
-    let len = if let Call::Take(len) = call { *len } else { 0 };
+    let len = if let Call::Take { destination, .. } = call { *destination } else { 0 };
     let lent = Memory::marked(len, 0xd0);
     let (mut after, mut destination) = (state.clone(), lent.clone());
     let got = model::call(&mut after, call, &mut destination);
@@ -262,9 +295,10 @@ pub fn every_field(random: &mut Random, counts: &mut Counts) -> Result<(), Disag
     Ok(())
 }
 
-/// Every number of one byte, and the number with every other high byte.
+/// Every number of one byte, and the number with every other value in each of the three bytes above.
 fn bytes_beside(number: u64) -> impl Iterator<Item = u64> {
-    (0..256).chain((1..256).map(move |high| high << 8 | number))
+    let above = move |shift: u32| (1..256).map(move |high| high << shift | number);
+    (0..256).chain([8, 16, 24].into_iter().flat_map(above))
 }
 
 /// The pools made ready for the exhaustive lists.
@@ -312,15 +346,17 @@ pub fn by_hand(
 
 /// A record whose live slices rise, with its other numbers mostly as the mode asks.
 fn made(random: &mut Random) -> Record {
-    let mut r = Record { mode: random.below(3) as u16, ..Record::default() };
+    let mut r = Record { mode: random.below(3) as u32, ..Record::default() };
     (r.capacity, r.overflow) = (random.within(1, 24), random.below(24));
     r.back_start = random.below(SLOTS as u64) as usize;
     r.back_len = random.below((SLOTS - r.back_start) as u64 + 1) as usize;
-    r.given = random.weighed(&[(9, 100), (1, u32::MAX)]);
+    r.given = [(); CALLERS].map(|()| random.weighed(&[(4, 100), (1, u32::MAX)]));
     for at in 0..SLOTS {
         r.starts[at] = random.below(30) as u32;
         r.lengths[at] = random.below(5) as u32;
         r.serials[at] = random.below(100) as u32;
+        let (known, any) = (random.below(CALLERS as u64), random.below(256));
+        r.callers[at] = random.weighed(&[(6, known), (1, any)]) as u8;
     }
     r.kept = random.below(r.overflow + 1);
     match r.mode {

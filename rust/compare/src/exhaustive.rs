@@ -6,7 +6,7 @@
 use crate::counts::Counts;
 use crate::pair::Pair;
 use crate::shrink::Disagreement;
-use oracle::calls::{Event, List, View};
+use oracle::calls::{Event, List, Name, View, CALLERS};
 use oracle::record::Mode;
 use oracle::text;
 
@@ -14,7 +14,8 @@ use oracle::text;
 const SMALL: u32 = 6;
 
 /// Pools made ready. `OCTET` stands for the eight slices of 2 bytes of SPECIFICATION 11, `EIGHT` and
-/// `SEVEN` for so many slices of 1 byte.
+/// `SEVEN` for so many slices of 1 byte. Callers 0 and 1 take them by turns: slots 1 and 2 have serial
+/// 1, slots 3 and 4 have 2, and so on.
 const READY: &[&str] = &[
     // All slots used; one left.
     "pool 17 overflow 20; OCTET",
@@ -22,22 +23,24 @@ const READY: &[&str] = &[
     "pool 9 overflow 4; EIGHT",
     "pool 9 overflow 4; SEVEN",
     // The front: empty, with a frame, with a slice of its own, with all of its slots used.
-    "pool 17 overflow 6; OCTET; d 1; d 2; d 3; r 1",
-    "pool 17 overflow 6; OCTET; d 1; d 2; d 3; r 2; c 2",
-    "pool 17 overflow 6; OCTET; d 1; d 2; d 3; r 2; c 2; t; r 1; c 1",
-    "pool 10 overflow 4; EIGHT; d 1; d 2; r 1; c 1; t; r 1; c 1; t",
+    "pool 17 overflow 6; OCTET; d 1; d 1 by 1; d 2; r 1",
+    "pool 17 overflow 6; OCTET; d 1; d 1 by 1; d 2; r 2; c 2",
+    "pool 17 overflow 6; OCTET; d 1; d 1 by 1; d 2; r 2; c 2; t; r 1; c 1",
+    "pool 10 overflow 4; EIGHT; d 1; d 1 by 1; r 1; c 1; t; r 1; c 1; t by 1",
     // The overflow: an empty frame, a frame, bytes kept after a take.
     "pool 9 overflow 5; EIGHT; r 1",
     "pool 9 overflow 5; EIGHT; r 3; c 2",
     "pool 9 overflow 5; EIGHT; r 4; c 2; t",
     "pool 4 overflow 6; r 3; c 3; t; r 2; c 2",
     // The back after front slices: the tail was cleared, and no slot of the back is left.
-    "pool 17 overflow 6; OCTET; d 1; d 2; r 3; c 3; t; d 3; d 4; d 5; d 6; d 7; d 8; r 2",
+    "pool 17 overflow 6; OCTET; d 1; d 1 by 1; r 3; c 3; t; d 2; d 2 by 1; d 3; d 3 by 1; d 4; \
+     d 4 by 1; r 2",
 ];
 
-/// The events of one slice of `len` bytes, `count` times.
+/// The events of one slice of `len` bytes, `count` times, by callers 0 and 1 in turn.
 fn slices(len: u32, count: usize) -> String {
-    vec![format!("r {len}; c {len}; t"); count].join("; ")
+    let slice = |at: usize| format!("r {len}; c {len}; t by {}", at % 2);
+    (0..count).map(slice).collect::<Vec<_>>().join("; ")
 }
 
 /// A pool made ready.
@@ -129,7 +132,9 @@ impl Search<'_> {
 
 /// What is tried where a pair stands: reserves of few bytes, of what fits and of one byte more;
 /// commits of none, one, all and one more; takes with enough and too little; truncates to none, one
-/// less and all; releases of each live slice, of the last serial given and of one never given.
+/// less and all; releases of each live slice, of the last serial given and of one never given. Pooled
+/// slices are taken by callers 0 and 1 in turn, and one take is by a number that is no caller; the last
+/// serial given is also released for caller 2, which has none, and for no caller.
 fn choices(pair: &Pair, overflow: u32) -> Vec<Event> {
     let at = pair.judge.situation();
     let (frame, reserved) = (at.frame_len as u64, at.reserved as u64);
@@ -142,22 +147,34 @@ fn choices(pair: &Pair, overflow: u32) -> Vec<Event> {
     let mut reserves = vec![0, 1, 2, 3, room, room + 1, spare, spare + 1, u64::MAX - frame];
     let mut commits = vec![0, 1, reserved, reserved + 1];
     let mut truncates = vec![0, frame.saturating_sub(1), frame];
-    let mut releases = pair.judge.live_serials();
-    releases.extend([0, pair.judge.serials()]);
     for numbers in [&mut reserves, &mut commits, &mut truncates] {
         numbers.sort_unstable();
         numbers.dedup();
     }
-    releases.sort_unstable();
-    releases.dedup();
-    let mut takes = vec![u64::from(overflow)];
+    let (caller, releases) = named(pair);
+    let mut takes = vec![(caller, u64::from(overflow)), (CALLERS as u8, 0)];
     if at.record.mode == Mode::Overflow && frame > 0 {
-        takes.push(frame - 1);
+        takes.push((caller, frame - 1));
     }
+    let take = |(caller, destination)| Event::Take { caller, destination };
     let mut events: Vec<Event> = reserves.into_iter().map(Event::Reserve).collect();
     events.extend(commits.into_iter().map(Event::Commit));
-    events.extend(takes.into_iter().map(Event::Take));
+    events.extend(takes.into_iter().map(take));
     events.extend(truncates.into_iter().map(Event::Truncate));
     events.extend(releases.into_iter().map(Event::Release));
     events
+}
+
+/// The caller whose turn it is, and the names that are released.
+fn named(pair: &Pair) -> (u8, Vec<Name>) {
+    let serials = pair.judge.serials();
+    let caller = (serials.iter().sum::<u32>() % 2) as u8;
+    let before = 1 - caller;
+    let serial = serials[usize::from(before)];
+    let mut names = pair.judge.live_names();
+    names.extend([before, 2, CALLERS as u8].map(|caller| Name { caller, serial }));
+    names.push(Name { caller, serial: 0 });
+    names.sort_unstable();
+    names.dedup();
+    (caller, names)
 }

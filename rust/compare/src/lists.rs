@@ -5,7 +5,7 @@ use crate::damage;
 use crate::pair::{self, Pair};
 use crate::shrink::Disagreement;
 use oracle::calls::{self, List};
-use oracle::generate::{lengths, Author};
+use oracle::generate::{lengths, Author, Callers};
 use oracle::random::Random;
 
 /// The fixed lists: the cases of SPECIFICATION 11, memories at the byte limit, and every class three
@@ -64,7 +64,7 @@ fn one(
     counts.list(list.capacity, list.overflow);
     let events = random.within(1, EVENTS);
     let mut damage_seed = Random::new(random.below(u64::MAX));
-    let mut author = Author::new(random, list.capacity);
+    let mut author = Author::new(random, list.capacity, Callers::All);
     for _ in 0..events {
         let event = author.choose(&pair.judge);
         list.events.push(event);

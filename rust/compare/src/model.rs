@@ -6,7 +6,7 @@ use crate::given::Given;
 use crate::memory::Memory;
 use crate::sound::{live, sound};
 use crate::state::State;
-use buffer_pool::raw::{self, Handle, Place, Placed, Record, Reserved, Taken, SLOTS};
+use buffer_pool::raw::{self, Handle, Place, Placed, Record, Reserved, Taken, CALLERS, SLOTS};
 
 /// A call, or a view.
 #[derive(Clone, Copy, Debug)]
@@ -14,8 +14,11 @@ pub enum Call {
     Reserve(u64),
     Commit(u64),
     Truncate(u64),
-    /// With the length of the destination.
-    Take(usize),
+    /// By a caller who may be none, with the length of the destination.
+    Take {
+        caller: u64,
+        destination: usize,
+    },
     Release(Handle),
     Frame,
     Reservation,
@@ -29,7 +32,7 @@ impl Call {
             Call::Reserve(_) => 0,
             Call::Commit(_) => 1,
             Call::Truncate(_) => 2,
-            Call::Take(_) => 3,
+            Call::Take { .. } => 3,
             Call::Release(_) => 4,
             Call::Frame => 5,
             Call::Reservation => 6,
@@ -44,7 +47,7 @@ impl Call {
             Call::Reserve(_) => {
                 Given::Reserved(Reserved { refusal: number, ..Reserved::default() })
             }
-            Call::Take(_) => Given::Taken(Taken { refusal: number, ..Taken::default() }),
+            Call::Take { .. } => Given::Taken(Taken { refusal: number, ..Taken::default() }),
             Call::Release(_) => Given::Released(refusal),
             _ => Given::Placed(Placed { refusal: number, ..Placed::default() }),
         }
@@ -75,13 +78,30 @@ fn reservation(r: &Record) -> Place {
     Place { start: start + length, length: r.reserved, memory }
 }
 
-/// Whether a handle names a live slice: its slot is one of 1 to 8 and live, and start, length and
-/// serial are that slot's.
+/// Whether a handle names a live slice: its slot is one of 1 to 8 and live, its caller one of 0 to 3,
+/// and start, length, serial and caller are that slot's.
 fn names_live(r: &Record, h: &Handle) -> bool {
-    let at = (h.slot as usize).wrapping_sub(1);
+    let at = usize::from(h.slot).wrapping_sub(1);
     at < SLOTS
+        && usize::from(h.caller) < CALLERS
         && r.live & (0x80 >> at) != 0
         && (r.starts[at], r.lengths[at], r.serials[at]) == (h.start, h.length, h.serial)
+        && u16::from(r.callers[at]) == h.caller
+}
+
+/// The refusal of a take on a passing record with memories of its lengths: 12 for a number that is no
+/// caller, whatever the frame is; then 6; then 8, by the caller's own serials.
+fn take_refusal(r: &Record, caller: u64, destination: usize) -> u8 {
+    let (length, in_overflow) = (frame(r).length, r.mode == raw::OVERFLOW);
+    if caller >= CALLERS as u64 {
+        return 12;
+    }
+    let all_given = r.given[caller as usize] == u32::MAX;
+    match in_overflow {
+        true if length > destination as u64 => 6,
+        false if length > 0 && all_given => 8,
+        _ => 0,
+    }
 }
 
 /// The refusal that is due, with 0 for none: 1, then 2, then the call's own. 4 is left to `reserve`.
@@ -93,11 +113,9 @@ pub fn refusal(state: &State, call: &Call) -> u8 {
     if state.pool.len() as u64 != r.capacity || state.overflow.len() as u64 != r.overflow {
         return 2;
     }
-    let (frame, in_overflow) = (frame(r), r.mode == raw::OVERFLOW);
     match *call {
         Call::Commit(n) if n > r.reserved => 5,
-        Call::Take(destination) if in_overflow && frame.length > destination as u64 => 6,
-        Call::Take(_) if !in_overflow && frame.length > 0 && r.given == u32::MAX => 8,
+        Call::Take { caller, destination } => take_refusal(r, caller, destination),
         Call::Release(h) | Call::Slice(h) if !names_live(r, &h) => 7,
         _ => 0,
     }
@@ -109,7 +127,9 @@ pub fn perform(state: &mut State, call: &Call, destination: &mut Memory) -> Give
     match *call {
         Call::Commit(n) => resize(r, frame(r).length + n),
         Call::Truncate(n) => resize(r, frame(r).length.min(n)),
-        Call::Take(_) => return Given::Taken(take(state, destination)),
+        Call::Take { caller, .. } => {
+            return Given::Taken(take(state, caller as usize, destination));
+        }
         Call::Release(h) => {
             r.live &= !(0x80 >> (h.slot - 1));
             return Given::Released(0);
@@ -133,8 +153,9 @@ fn resize(r: &mut Record, length: u64) {
     }
 }
 
-/// A take. From the overflow the frame is copied, and the bytes after it move down to 0.
-fn take(state: &mut State, destination: &mut Memory) -> Taken {
+/// A take by one of the callers. From the overflow the frame is copied, and the bytes after it move
+/// down to 0. A slice has the caller's next serial.
+fn take(state: &mut State, caller: usize, destination: &mut Memory) -> Taken {
     let r = &mut state.record;
     let Place { start, length, memory } = frame(r);
     r.reserved = 0;
@@ -149,8 +170,10 @@ fn take(state: &mut State, destination: &mut Memory) -> Taken {
         return Taken { copied: length, ..Taken::default() };
     }
     let at = r.used;
-    r.given += 1;
-    (r.starts[at], r.lengths[at], r.serials[at]) = (start as u32, length as u32, r.given);
+    r.given[caller] += 1;
+    let serial = r.given[caller];
+    (r.starts[at], r.lengths[at], r.serials[at]) = (start as u32, length as u32, serial);
+    r.callers[at] = caller as u8;
     r.live |= 0x80 >> at;
     r.used += 1;
     match r.mode {
@@ -158,14 +181,15 @@ fn take(state: &mut State, destination: &mut Memory) -> Taken {
         _ => r.front_len += 1,
     }
     (r.raw_offset, r.raw_len) = (start + length, 0);
-    let (start, length, serial) = (start as u32, length as u32, r.given);
-    Taken { handle: Handle { start, length, serial, slot: at as u32 + 1 }, ..Taken::default() }
+    let (start, length) = (start as u32, length as u32);
+    let (slot, caller) = (at as u16 + 1, caller as u16);
+    Taken { handle: Handle { start, length, serial, slot, caller }, ..Taken::default() }
 }
 
 /// What must hold of a reserve on a passing record with memories of its lengths: refused with 4 only
 /// if frame and reservation exceed the overflow, and then nothing changes; else a passing record with
-/// the same live slices, handles and serials, their bytes and the frame's bytes as they were, and a
-/// reservation of this length at the frame's end, after at most two changes.
+/// the same live slices, handles, serials and callers, their bytes and the frame's bytes as they were,
+/// and a reservation of this length at the frame's end, after at most two changes.
 pub fn reserve(
     before: &State,
     len: u64,
@@ -187,9 +211,10 @@ pub fn reserve(
     holds(&[
         (sound(new), "the record does not pass any more"),
         ((new.capacity, new.overflow) == (old.capacity, old.overflow), "a length changes"),
+        ((new.live, new.given) == (old.live, old.given), "live or serials given"),
         (
-            (new.live, new.given, new.serials) == (old.live, old.given, old.serials),
-            "live or serials",
+            (new.serials, new.callers) == (old.serials, old.callers),
+            "a slot's serial or caller changes",
         ),
         (live(old).all(|(p, ..)| entry(old, p) == entry(new, p)), "a live slice's entry changes"),
         (
@@ -212,7 +237,7 @@ fn holds(conditions: &[(bool, &'static str)]) -> Result<(), &'static str> {
 pub fn call(state: &mut State, call: &Call, destination: &mut Memory) -> Given {
     match *call {
         Call::Reserve(len) => Given::Reserved(state.reserve(len)),
-        Call::Take(_) => Given::Taken(state.take(destination)),
+        Call::Take { caller, .. } => Given::Taken(state.take(caller, destination)),
         Call::Release(h) => Given::Released(state.release(h)),
         Call::Commit(n) => Given::Placed(state.commit(n)),
         Call::Truncate(n) => Given::Placed(state.truncate(n)),

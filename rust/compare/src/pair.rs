@@ -4,7 +4,7 @@ use crate::counts::Counts;
 use crate::given::Given;
 use crate::port::Port;
 use buffer_pool::raw::{self, Handle, Place, Placed, Record, Reserved, Taken};
-use oracle::calls::{Event, List, View};
+use oracle::calls::{Event, List, Name, View};
 use oracle::classes::classes;
 use oracle::judge::{Answer, Judge};
 use oracle::record::{self, Mode, SLOTS};
@@ -62,8 +62,8 @@ impl Pair {
                 Given::Reserved(Reserved { place, changes: rust.changes.into(), refusal })
             }
             Event::Commit(_) | Event::Truncate(_) => Given::Placed(Placed { place, refusal }),
-            Event::Take(_) => {
-                let (handle, copied) = (self.handle_due(rust), rust.copied.len() as u64);
+            Event::Take { caller, .. } => {
+                let (handle, copied) = (self.handle_due(caller, rust), rust.copied.len() as u64);
                 Given::Taken(Taken { handle, copied, refusal })
             }
             Event::Release(_) => Given::Released(rust.refusal),
@@ -81,16 +81,28 @@ impl Pair {
         Place { start: start as u64, length: length as u64, memory }
     }
 
-    /// The handle that a take has to give: that of the slice last taken, or none if the take was
-    /// refused, copied the frame, or found it empty.
-    fn handle_due(&self, rust: &Answer) -> Handle {
+    /// The handle that a take has to give: that of the slice which its caller took last, or none if
+    /// the take was refused, copied the frame, or found it empty.
+    fn handle_due(&self, caller: u8, rust: &Answer) -> Handle {
         if rust.refusal != 0 || rust.len == 0 || !rust.copied.is_empty() {
             return Handle::default();
         }
-        let serial = self.judge.serials();
-        let taken = |&p: &usize| self.judge.slice_place(p).is_some_and(|(of, ..)| of == serial);
-        let slot = (1..=SLOTS).find(taken).expect("a slot of the slice") as u32;
-        Handle { start: rust.start as u32, length: rust.len as u32, serial, slot }
+        let name = Name { caller, serial: self.judge.serials()[usize::from(caller)] };
+        let taken = |&p: &usize| self.judge.slice_place(p).is_some_and(|(of, ..)| of == name);
+        let slot = (1..=SLOTS).find(taken).expect("a slot of the slice");
+        self.slot_handle(slot).expect("a live slot")
+    }
+
+    /// The handle of the live slice in a slot, as the Rust has it.
+    fn slot_handle(&self, slot: usize) -> Option<Handle> {
+        let (name, start, length) = self.judge.slice_place(slot)?;
+        Some(Handle {
+            start: start as u32,
+            length: length as u32,
+            serial: name.serial,
+            slot: slot as u16,
+            caller: name.caller.into(),
+        })
     }
 
     /// What the archive has to give for a view: 7 for a slice that is not live, which is the one
@@ -108,16 +120,18 @@ impl Pair {
         let at = self.judge.situation();
         let record = &self.port.state.record;
         same("the record", &at.record, &numbers(record))?;
-        same("the live word", &u16::from(at.record.live), &record.live)?;
+        same("the live word", &u32::from(at.record.live), &record.live)?;
         same("the reservation's length", &(at.reserved as u64), &record.reserved)?;
         same("serials given", &self.judge.serials(), &record.given)?;
         same("the pool memory", &self.judge.pool_bytes(), &self.port.state.pool.bytes())?;
         self.compare_view("the frame", View::Frame, self.judge.frame())?;
         self.compare_view("the reservation", View::Reservation, self.judge.reservation())?;
         for (slot, bytes) in self.judge.slices() {
-            let (serial, ..) = self.judge.slice_place(slot).expect("a live slot");
-            same("the slot", &slot, &(self.port.handle(serial).slot as usize))?;
-            self.compare_view("a slice", View::Slice(serial), bytes)?;
+            let (name, ..) = self.judge.slice_place(slot).expect("a live slot");
+            let entry = (record.callers[slot - 1], record.serials[slot - 1]);
+            same("a slot's caller and serial", &(name.caller, name.serial), &entry)?;
+            same("the handle", &self.slot_handle(slot), &Some(self.port.handle(name)))?;
+            self.compare_view("a slice", View::Slice(name), bytes)?;
         }
         Ok(())
     }

@@ -4,8 +4,8 @@ use crate::given::Given;
 use crate::memory::Memory;
 use crate::model::new_record;
 use crate::state::State;
-use buffer_pool::raw::{self, Created, Handle, Placed};
-use oracle::calls::{Event, View};
+use buffer_pool::raw::{Created, Handle, Placed, CALLERS, SLOTS};
+use oracle::calls::{Event, Name, View};
 
 /// What a destination holds before a take.
 const DESTINATION: u8 = 0xd0;
@@ -15,8 +15,8 @@ pub struct Port {
     pub state: State,
     /// The state before the last event.
     before: State,
-    /// Every handle that was given, by serial.
-    handles: Vec<Handle>,
+    /// Every handle that was given, by caller and serial.
+    handles: [Vec<Handle>; CALLERS],
 }
 
 impl Port {
@@ -32,7 +32,7 @@ impl Port {
         if state.pool.bytes().iter().any(|&byte| byte != 0) || state.overflow != overflow {
             return Err("new leaves other bytes than zeros and the overflow's own".into());
         }
-        Ok(Port { before: state.clone(), state, handles: Vec::new() })
+        Ok(Port { before: state.clone(), state, handles: Default::default() })
     }
 
     /// A copy.
@@ -51,10 +51,10 @@ impl Port {
         let (given, copied) = match *event {
             Event::Reserve(len) => (Given::Reserved(self.state.reserve(len)), Vec::new()),
             Event::Commit(len) => (Given::Placed(self.state.commit(len)), Vec::new()),
-            Event::Take(destination) => self.take(destination)?,
+            Event::Take { caller, destination } => self.take(caller, destination)?,
             Event::Truncate(len) => (Given::Placed(self.state.truncate(len)), Vec::new()),
-            Event::Release(serial) => {
-                (Given::Released(self.state.release(self.handle(serial))), Vec::new())
+            Event::Release(name) => {
+                (Given::Released(self.state.release(self.handle(name))), Vec::new())
             }
             Event::Write { view, index, value } => {
                 return Ok((Given::Placed(self.write(view, index, value)?), Vec::new()))
@@ -65,34 +65,47 @@ impl Port {
     }
 
     /// The destination has a few bytes more than the overflow if more are asked for.
-    fn take(&mut self, destination: u64) -> Result<(Given, Vec<u8>), String> {
+    fn take(&mut self, caller: u8, destination: u64) -> Result<(Given, Vec<u8>), String> {
         let len = destination.min(self.state.overflow.len() as u64 + 3) as usize;
         let before = Memory::marked(len, DESTINATION);
         let mut destination = before.clone();
-        let taken = self.state.take(&mut destination);
+        let taken = self.state.take(caller.into(), &mut destination);
         let copied = usize::try_from(taken.copied).ok().filter(|&copied| copied <= len);
         let copied = copied.ok_or("more is copied than the destination has")?;
         if destination.bytes()[copied..] != before.bytes()[copied..] || !destination.intact() {
             return Err("a destination byte past the frame is changed".into());
         }
         if taken.handle.slot != 0 {
-            self.handles.push(taken.handle);
+            let own = self.handles.get_mut(usize::from(caller));
+            own.ok_or("a slice for a number that is no caller")?.push(taken.handle);
         }
         Ok((Given::Taken(taken), destination.bytes()[..copied].to_vec()))
     }
 
-    /// The handle that was given with this serial; else one that differs from a slot's entry by
-    /// the serial alone.
-    pub fn handle(&self, serial: u32) -> Handle {
-        let given = (serial as usize).checked_sub(1).and_then(|at| self.handles.get(at));
-        let record = &self.state.record;
-        let at = serial as usize % raw::SLOTS;
-        given.copied().unwrap_or(Handle {
-            start: record.starts[at],
-            length: record.lengths[at],
-            serial,
-            slot: at as u32 + 1,
-        })
+    /// The handle that was given with this name, or an invented one.
+    pub fn handle(&self, name: Name) -> Handle {
+        let own = self.handles.get(usize::from(name.caller));
+        let at = (name.serial as usize).checked_sub(1);
+        let given = own.zip(at).and_then(|(own, at)| own.get(at));
+        given.copied().unwrap_or_else(|| self.invented(name))
+    }
+
+    /// A handle with a name that was not given, on a slot's entry: it differs from the entry of a live
+    /// slice by the caller alone or by the serial alone, where there is such a slice.
+    fn invented(&self, name: Name) -> Handle {
+        let r = &self.state.record;
+        let live = |at: &usize| r.live & (0x80 >> at) != 0;
+        let of_serial = |at: &usize| live(at) && r.serials[*at] == name.serial;
+        let of_caller = |at: &usize| live(at) && r.callers[*at] == name.caller;
+        let at = (0..SLOTS).find(of_serial).or_else(|| (0..SLOTS).find(of_caller));
+        let at = at.unwrap_or(name.serial as usize % SLOTS);
+        Handle {
+            start: r.starts[at],
+            length: r.lengths[at],
+            serial: name.serial,
+            slot: at as u16 + 1,
+            caller: name.caller.into(),
+        }
     }
 
     /// Writes one byte through a view, if it reaches that far, and gives the view's place.
@@ -110,7 +123,7 @@ impl Port {
         match view {
             View::Reservation => self.state.reservation(),
             View::Frame => self.state.frame(),
-            View::Slice(serial) => self.state.slice(self.handle(serial)),
+            View::Slice(name) => self.state.slice(self.handle(name)),
         }
     }
 
@@ -123,7 +136,7 @@ impl Port {
         }
         let same = match event {
             Event::Reserve(_) | Event::Write { .. } => true,
-            Event::Take(_) => state.pool == before.pool,
+            Event::Take { .. } => state.pool == before.pool,
             _ => state.pool == before.pool && state.overflow == before.overflow,
         };
         if !same {

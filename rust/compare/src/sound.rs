@@ -1,5 +1,5 @@
 //! The soundness test, written from the rules' text (SPECIFICATION 4) and not from the port. Sums are
-//! whole numbers.
+//! whole numbers. Serials and callers are not looked at.
 //!
 //! In the comments s and n are `back_start` and `back_len`; f, c and l are the front's slots, bytes
 //! and used slots.
@@ -19,7 +19,7 @@ fn limited(r: &Record) -> bool {
 
 /// The live word has no bit but those of the slots.
 fn only_slots(r: &Record) -> bool {
-    u32::from(r.live) >> SLOTS == 0
+    r.live >> SLOTS == 0
 }
 
 /// s < 8, s + n ≤ 8, and n = 0 if the capacity is 0.
@@ -106,6 +106,7 @@ fn in_overflow(r: &Record) -> bool {
 #[cfg(test)]
 mod tests {
     use super::*;
+    use buffer_pool::raw::CALLERS;
 
     /// Eight slices of 2 bytes in 17.
     fn octet() -> Record {
@@ -129,10 +130,18 @@ mod tests {
     }
 
     #[test]
+    fn serials_and_callers_are_not_looked_at() {
+        let (serials, given) = ([7; SLOTS], [u32::MAX; CALLERS]);
+        assert!(sound(&Record { serials, given, callers: [255; SLOTS], ..octet() }));
+    }
+
+    #[test]
     fn one_number_off_fails() {
         assert!(!sound(&Record { mode: 3, ..octet() }));
         assert!(!sound(&Record { mode: 0x100, ..octet() }));
+        assert!(!sound(&Record { mode: 1 << 16, ..octet() }));
         assert!(!sound(&Record { live: 0x1ff, ..octet() }));
+        assert!(!sound(&Record { live: 0xff | 1 << 31, ..octet() }));
         assert!(!sound(&Record { used: 7, ..octet() }));
         assert!(!sound(&Record { reserved: 1, ..octet() }));
         assert!(!sound(&Record { raw_offset: 15, ..octet() }));

@@ -100,13 +100,22 @@ impl State {
         })
     }
 
-    pub fn take(&mut self, destination: &mut Memory) -> Taken {
+    pub fn take(&mut self, caller: u64, destination: &mut Memory) -> Taken {
         let (pool, pool_len, overflow, overflow_len) = self.lent_mut();
         let destination = destination.bytes_mut();
         let (to, to_len) = (destination.as_mut_ptr(), destination.len());
         let record = &mut self.record;
         on_filled(|| unsafe {
-            raw::buffer_pool_take(record, pool, pool_len, overflow, overflow_len, to, to_len)
+            raw::buffer_pool_take(
+                record,
+                pool,
+                pool_len,
+                overflow,
+                overflow_len,
+                caller,
+                to,
+                to_len,
+            )
         })
     }
 

@@ -44,8 +44,11 @@ same-length-2 c = search needs
 same-length-3 : tie.Need-same-length-3 Inv-loop μ-loop
 same-length-3 c = search needs
 
+array-read-result : tie.Need-array-read-result Inv-loop μ-loop
+array-read-result c = search needs
+
 returns : tie.Need-returns Inv-loop μ-loop
 returns c = (search serials-given, search memories-left)
 
 pub pool-bench-rounds-spec : {M : Type 1} → statement M
-pool-bench-rounds-spec = tie.close (tie.spec Inv-loop μ-loop new-requires loop-holds round-requires sub-left loop-less loop-again same-length same-length-2 same-length-3 returns)
+pool-bench-rounds-spec = tie.close (tie.spec Inv-loop μ-loop new-requires loop-holds round-requires sub-left loop-less loop-again array-read-result same-length same-length-2 same-length-3 returns)

@@ -5,10 +5,10 @@ use Rattle.pool_cases.proofs.handle_of.Statement.{statement}
 use Rattle.pool_cases.proofs.handle_of.Tie as tie
 
 abbrev Inv-loop : tie.InvT-loop
-Inv-loop p pool overflow serial slot₀ slot = (1 ≤ slot) × (slot ≤ 9)
+Inv-loop p pool overflow caller serial slot₀ slot = (1 ≤ slot) × (slot ≤ 9)
 
 abbrev μ-loop : tie.MeasureT-loop
-μ-loop p pool overflow serial slot₀ slot = 9 - slot
+μ-loop p pool overflow caller serial slot₀ slot = 9 - slot
 
 loop-holds : tie.Need-loop-holds Inv-loop μ-loop
 loop-holds c = search needs
@@ -16,8 +16,8 @@ loop-holds c = search needs
 entry-requires : tie.Need-entry-requires Inv-loop μ-loop
 entry-requires c κs = search needs
 
-cast-if1 : tie.Need-cast-if1 Inv-loop μ-loop
-cast-if1 c = search needs
+bears-requires : tie.Need-bears-requires Inv-loop μ-loop
+bears-requires c κs = search needs
 
 slice-number-requires : tie.Need-slice-number-requires Inv-loop μ-loop
 slice-number-requires c κs = search needs
@@ -48,7 +48,7 @@ handle-of-spec =
     μ-loop
     loop-holds
     entry-requires
-    cast-if1
+    bears-requires
     slice-number-requires
     returns
     add-slot

@@ -1,4 +1,4 @@
--- `event_there` meets its contract. The event's kind and number stand at its place. Assumes nothing.
+-- `event_there` meets its contract. The event's kind, caller and number stand at its place. Assumes nothing.
 use Rattle.trace.proofs.EventLaws.{event-there}
 use borrow.Author.Needs.{needs}
 use Rattle.trace.proofs.event_there.Statement.{statement}
@@ -9,6 +9,12 @@ event-place-requires c κs = search needs
 
 byte-at-requires : tie.Need-byte-at-requires
 byte-at-requires c κs = search needs
+
+add-byte-at : tie.Need-add-byte-at
+add-byte-at c = search needs
+
+byte-at-requires-2 : tie.Need-byte-at-requires-2
+byte-at-requires-2 c κs = search needs
 
 add-number : tie.Need-add-number
 add-number c = search needs
@@ -21,4 +27,12 @@ returns c = search event-there
 
 pub event-there-spec : {M : Type 1} → statement M
 event-there-spec =
-    tie.close (tie.spec event-place-requires byte-at-requires add-number number-requires returns)
+    tie.close
+    (tie.spec
+    event-place-requires
+    byte-at-requires
+    add-byte-at
+    byte-at-requires-2
+    add-number
+    number-requires
+    returns)

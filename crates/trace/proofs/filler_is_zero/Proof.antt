@@ -1,5 +1,5 @@
 -- `filler_is_zero` meets its contract. Each return knows the filler bytes tested on the way to it. Assumes nothing.
-use Rattle.trace.proofs.EventLaws.{first-filler, second-filler, third-filler}
+use Rattle.trace.proofs.EventLaws.{first-filler, last-filler}
 use borrow.Author.Needs.{needs}
 use Rattle.trace.proofs.filler_is_zero.Statement.{statement}
 use Rattle.trace.proofs.filler_is_zero.Tie as tie
@@ -23,16 +23,7 @@ byte-at-requires-2 : tie.Need-byte-at-requires-2
 byte-at-requires-2 c κs = search needs
 
 returns-2 : tie.Need-returns-2
-returns-2 c = search second-filler
-
-add-byte-at-3 : tie.Need-add-byte-at-3
-add-byte-at-3 c = search needs
-
-byte-at-requires-3 : tie.Need-byte-at-requires-3
-byte-at-requires-3 c κs = search needs
-
-returns-3 : tie.Need-returns-3
-returns-3 c = search third-filler
+returns-2 c = search last-filler
 
 pub filler-is-zero-spec : {M : Type 1} → statement M
 filler-is-zero-spec =
@@ -44,7 +35,4 @@ filler-is-zero-spec =
     returns
     add-byte-at-2
     byte-at-requires-2
-    returns-2
-    add-byte-at-3
-    byte-at-requires-3
-    returns-3)
+    returns-2)

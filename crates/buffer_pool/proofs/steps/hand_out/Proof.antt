@@ -4,8 +4,17 @@ use borrow.Author.Needs.{needs}
 use Rattle.buffer_pool.proofs.steps.hand_out.Statement.{statement}
 use Rattle.buffer_pool.proofs.steps.hand_out.Tie as tie
 
+given-to-requires : tie.Need-given-to-requires
+given-to-requires c κs = search needs
+
 add-serial : tie.Need-add-serial
 add-serial c = search needs
+
+mul-given : tie.Need-mul-given
+mul-given c = search needs
+
+array-write-given : tie.Need-array-write-given
+array-write-given c = search needs
 
 cast-starts : tie.Need-cast-starts
 cast-starts c = search needs
@@ -31,6 +40,12 @@ mul-serials c = search needs
 array-write-serials : tie.Need-array-write-serials
 array-write-serials c = search needs
 
+cast-callers : tie.Need-cast-callers
+cast-callers c = search needs
+
+array-write-callers : tie.Need-array-write-callers
+array-write-callers c = search needs
+
 add-position : tie.Need-add-position
 add-position c = search needs
 
@@ -40,8 +55,8 @@ cast-claim c = search needs
 claim-requires : tie.Need-claim-requires
 claim-requires c κs = search needs
 
-add-t23 : tie.Need-add-t23
-add-t23 c = search needs
+add-t32 : tie.Need-add-t32
+add-t32 c = search needs
 
 returns : tie.Need-returns
 returns c = search handed-out
@@ -50,7 +65,10 @@ pub hand-out-spec : {M : Type 1} → statement M
 hand-out-spec =
     tie.close
     (tie.spec
+    given-to-requires
     add-serial
+    mul-given
+    array-write-given
     cast-starts
     mul-starts
     array-write-starts
@@ -59,8 +77,10 @@ hand-out-spec =
     array-write-lengths
     mul-serials
     array-write-serials
+    cast-callers
+    array-write-callers
     add-position
     cast-claim
     claim-requires
-    add-t23
+    add-t32
     returns)

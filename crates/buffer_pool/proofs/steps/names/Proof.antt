@@ -1,5 +1,5 @@
 -- `steps::names` meets its contract. Assumes nothing.
-use Rattle.buffer_pool.proofs.StepLaws.{slot-zero, slot-past, slot-free, start-differs, length-differs, serial-decides}
+use Rattle.buffer_pool.proofs.StepLaws.{slot-zero, slot-past, slot-free, start-differs, length-differs, serial-differs, caller-differs, caller-decides}
 use borrow.Author.Needs.{needs}
 use Rattle.buffer_pool.proofs.steps.names.Statement.{statement}
 use Rattle.buffer_pool.proofs.steps.names.Tie as tie
@@ -43,14 +43,26 @@ array-read-if5 c = search needs
 returns-5 : tie.Need-returns-5
 returns-5 c = search length-differs
 
-mul-result : tie.Need-mul-result
-mul-result c = search needs
+mul-if6 : tie.Need-mul-if6
+mul-if6 c = search needs
 
-array-read-result : tie.Need-array-read-result
-array-read-result c = search needs
+array-read-if6 : tie.Need-array-read-if6
+array-read-if6 c = search needs
 
 returns-6 : tie.Need-returns-6
-returns-6 c = search serial-decides
+returns-6 c = search serial-differs
+
+array-read-if7 : tie.Need-array-read-if7
+array-read-if7 c = search needs
+
+returns-7 : tie.Need-returns-7
+returns-7 c = search caller-differs
+
+cast-result : tie.Need-cast-result
+cast-result c = search needs
+
+returns-8 : tie.Need-returns-8
+returns-8 c = search caller-decides
 
 pub names-spec : {M : Type 1} → statement M
 names-spec =
@@ -69,6 +81,10 @@ names-spec =
     mul-if5
     array-read-if5
     returns-5
-    mul-result
-    array-read-result
-    returns-6)
+    mul-if6
+    array-read-if6
+    returns-6
+    array-read-if7
+    returns-7
+    cast-result
+    returns-8)

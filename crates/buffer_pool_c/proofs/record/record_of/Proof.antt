@@ -7,8 +7,8 @@ use Rattle.buffer_pool_c.proofs.record.record_of.Tie as tie
 front-of-requires : tie.Need-front-of-requires
 front-of-requires c κs = search needs
 
-cast-t8 : tie.Need-cast-t8
-cast-t8 c = search needs
+cast-t10 : tie.Need-cast-t10
+cast-t10 c = search needs
 
 mode-number-requires : tie.Need-mode-number-requires
 mode-number-requires c κs = search needs
@@ -17,4 +17,4 @@ returns : tie.Need-returns
 returns c = search record-as
 
 pub record-of-spec : {M : Type 1} → statement M
-record-of-spec = tie.close (tie.spec front-of-requires cast-t8 mode-number-requires returns)
+record-of-spec = tie.close (tie.spec front-of-requires cast-t10 mode-number-requires returns)

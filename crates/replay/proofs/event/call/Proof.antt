@@ -31,6 +31,9 @@ same-length-4 c = search needs
 returns-2 : tie.Need-returns-2
 returns-2 c = search call-commit
 
+cast-take : tie.Need-cast-take
+cast-take c = search needs
+
 take-requires : tie.Need-take-requires
 take-requires c κs = search needs
 
@@ -83,6 +86,7 @@ call-spec =
     same-length-3
     same-length-4
     returns-2
+    cast-take
     take-requires
     same-length-5
     same-length-6

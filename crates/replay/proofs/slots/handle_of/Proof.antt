@@ -16,17 +16,17 @@ cast-i c = search needs
 sub-i : tie.Need-sub-i
 sub-i c = search needs
 
-mul-t8 : tie.Need-mul-t8
-mul-t8 c = search needs
+mul-t9 : tie.Need-mul-t9
+mul-t9 c = search needs
 
-array-read-t11 : tie.Need-array-read-t11
-array-read-t11 c = search needs
+array-read-t12 : tie.Need-array-read-t12
+array-read-t12 c = search needs
 
-mul-t12 : tie.Need-mul-t12
-mul-t12 c = search needs
+mul-t13 : tie.Need-mul-t13
+mul-t13 c = search needs
 
-array-read-t15 : tie.Need-array-read-t15
-array-read-t15 c = search needs
+array-read-t16 : tie.Need-array-read-t16
+array-read-t16 c = search needs
 
 returns-2 : tie.Need-returns-2
 returns-2 c = search handle-some
@@ -39,8 +39,8 @@ handle-of-spec =
     returns
     cast-i
     sub-i
-    mul-t8
-    array-read-t11
-    mul-t12
-    array-read-t15
+    mul-t9
+    array-read-t12
+    mul-t13
+    array-read-t16
     returns-2)

@@ -1,4 +1,4 @@
--- `slots::slot_of` meets its contract. While the slots before p do not bear the serial, the first that does is the first from p on. Assumes nothing.
+-- `slots::slot_of` meets its contract. While the slots before p do not bear the caller and the serial, the first that does is the first from p on. Assumes nothing.
 use borrow.Author.Needs.{needs}
 use Rattle.replay.specs.Slots.{slotFrom}
 use mathlib.Core.Path.{_≡_}
@@ -8,10 +8,11 @@ use Rattle.replay.proofs.slots.slot_of.Statement.{statement}
 use Rattle.replay.proofs.slots.slot_of.Tie as tie
 
 abbrev Inv-loop : tie.InvT-loop
-Inv-loop serial live serials p₀ p = (1 ≤ p) × (p ≤ 9) × (slotFrom live serials serial 1 8 ≡ slotFrom live serials serial p (9 - p))
+Inv-loop caller serial live callers serials p₀ p =
+    (1 ≤ p) × (p ≤ 9) × (slotFrom live callers serials caller serial 1 8 ≡ slotFrom live callers serials caller serial p (9 - p))
 
 abbrev μ-loop : tie.MeasureT-loop
-μ-loop serial live serials p₀ p = 9 - p
+μ-loop caller serial live callers serials p₀ p = 9 - p
 
 loop-holds : tie.Need-loop-holds Inv-loop μ-loop
 loop-holds c = search needs

@@ -45,7 +45,7 @@ returns-3 c =
     let t = c .before .before .before .before .before .before .before .before .before .take-step in
     let l = c .before .before .before .before .before .before .before .before .copied in
     let o = c .before .before .before .before .copy-out in
-    take-copies (a .self) (now (a .pool)) (now (a .overflow)) (now (a .destination)) (g .result) (g .ensures) (c .before .before .before .before .before .before .before .before .before .before .if1 .left) (t .result) (t .ensures) (l .result) (l .ensures)
+    take-copies (a .self) (now (a .pool)) (now (a .overflow)) (now (a .destination)) (a .caller) (g .result) (g .ensures) (c .before .before .before .before .before .before .before .before .before .before .if1 .left) (t .result) (t .ensures) (l .result) (l .ensures)
     (c .before .before .before .before .before .before .before .if2 .left) (o .last .1 .0) (o .last .0) (o .ensures .0) (o .ensures .1)
 
 pub take-spec : {M : Type 1} → statement M
