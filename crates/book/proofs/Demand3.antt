@@ -6,7 +6,7 @@ use mathlib.Core.List.{List}
 use Prim.Native.Nat.{ℕ, suc, _≤_, _<_}
 use lib.ListN.{length}
 use Rattle.buffer_pool.specs.declared.slice.Handle.{Handle}
-use Rattle.buffer_pool.specs.Record.{byteLimit, callerCount}
+use Rattle.buffer_pool.specs.Record.{byteLimit}
 use Rattle.buffer_pool.specs.Moves.{Memories}
 use Rattle.buffer_pool.specs.Values.{noPlace, valued, refusal}
 use Rattle.buffer_pool.specs.Calls.{new}
@@ -47,9 +47,9 @@ serials-own w m before caller destination h e l = own-serial w m before caller d
 
 -- so over every list a caller's serials are 1, 2, 3, .. up to the count of its pooled takes: they "depend on its own pooled takes
 -- alone"
-pub serials-from-one : (w : ℕ) (m : Memories) (es : List Entry) (caller : ℕ) → caller < callerCount
+pub serials-from-one : (w : ℕ) (m : Memories) (es : List Entry) (caller : ℕ)
     → serialsOf w (opened w m) es caller ≡ numbersAfter 0 (pooledTakes w (opened w m) es caller)
-serials-from-one w m es caller b = own-serials w m es caller b
+serials-from-one w m es caller = own-serials w m es caller
 
 -- and of the live slices no two have one caller and one serial: what is in the book after any entries has one handle for both
 pub one-slice-of-a-serial : (w : ℕ) (m : Memories) (es : List Entry) (x y : Pair)

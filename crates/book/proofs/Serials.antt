@@ -5,6 +5,7 @@ use mathlib.Core.Bool.{Bool, true, false, not, _||_}
 use mathlib.Core.List.{List, [], _∷_}
 use mathlib.Core.Logic.{inl, inr}
 use Prim.Native.Nat.{ℕ, zero, suc, _+_, _≤_, _<_, min}
+use native.Mathlib.Decide.{decLt}
 use native.Mathlib.Omega.{arith}
 use borrow.Author.Tests.{leb-false, eqb-true, eqb-false, eq-eqb}
 use lib.Dec.{leb, ltb, eqb}
@@ -234,6 +235,25 @@ module _ (w : ℕ) where
           omega (arith, N .one) in
           rw (t, count, all, N .serial-is) refl
 
+  -- a number that is no caller has no pooled take
+  stranger-serials : (s : State) (es : List Entry) → callerCount ≤ length (s .pool .given) → (caller : ℕ) → (caller < callerCount → ⊥)
+      → (k : ℕ) → serialsOf w s es caller ≡ numbersAfter k (pooledTakes w s es caller)
+  unfolding serialsOf pooledTakes numbersAfter
+  stranger-serials s [] h caller n k = refl
+  stranger-serials s (e ∷ es) h caller n k =
+      go (pooledTake caller e (saidAt w s e)) refl (stranger-serials (next w s e) es (C .grown .places) caller n k)
+    where
+      C : Counted (s .pool) (λ caller. pooledTake caller e (saidAt w s e)) (saidAt w s e) (next w s e .pool)
+      C = entry-counted s e h
+
+      go : (t : ℕ) → pooledTake caller e (saidAt w s e) ≡ t
+          → serialsOf w (next w s e) es caller ≡ numbersAfter k (pooledTakes w (next w s e) es caller)
+          → withSerial t (saidAt w s e .handle .serial) (serialsOf w (next w s e) es caller)
+          ≡ numbersAfter k (t + pooledTakes w (next w s e) es caller)
+      go zero p rest =
+          let all : 0 + pooledTakes w (next w s e) es caller ≡ pooledTakes w (next w s e) es caller = omega arith in rw (rest, all)
+      go (suc t) p rest = absurd (n (C .numbered caller t p .a-caller))
+
 -- ---- The handles in the book
 
 -- each has a caller, and a serial that this caller was given; two of one caller and one serial are one
@@ -388,11 +408,15 @@ module _ (w : ℕ) (m : Memories) where
             ∙ ap suc (omega (arith, G .grows caller b, opened-none caller b)),
       )
 
-  pub own-serials : (es : List Entry) (caller : ℕ) → caller < callerCount
+  pub own-serials : (es : List Entry) (caller : ℕ)
       → serialsOf w (opened w m) es caller ≡ numbersAfter 0 (pooledTakes w (opened w m) es caller)
-  own-serials es caller b =
-      list-serials w (opened w m) es opened-places caller b
-      ∙ ap (λ (k : ℕ). numbersAfter k (pooledTakes w (opened w m) es caller)) (opened-none caller b)
+  own-serials es caller = go (decLt caller callerCount)
+    where
+      go : Dec (caller < callerCount) → serialsOf w (opened w m) es caller ≡ numbersAfter 0 (pooledTakes w (opened w m) es caller)
+      go (yes b) =
+          list-serials w (opened w m) es opened-places caller b
+          ∙ ap (λ (k : ℕ). numbersAfter k (pooledTakes w (opened w m) es caller)) (opened-none caller b)
+      go (no n) = stranger-serials w (opened w m) es opened-places caller n 0
 
   pub one-of-serial : (es : List Entry) (x y : Pair) → let pairs = bookAfter w (opened w m) emptyBook es .pairs in
       Member x pairs → Member y pairs → x .handle .caller ≡ y .handle .caller → x .handle .serial ≡ y .handle .serial

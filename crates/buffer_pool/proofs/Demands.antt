@@ -41,7 +41,7 @@ use Rattle.buffer_pool.proofs.AsTheRust.{as-the-rust}
 module _ (r : BufferPool) (m : Memories) (c : Call) where
   -- ---- Demand 1
 
-  -- SPECIFICATION 3.2: "Every call answers, for every record, handle, length and memory: with a result, or with a refusal": the
+  -- SPECIFICATION 3.2: "Every call answers, for every record, handle, length, caller and memory: with a result, or with a refusal": the
   -- number of a cause that holds, with none before it
   pub a-result-or-a-refusal : Result c (call slotCount r m c .call)
       ⊎ ((k : ℕ) × Refusal k (call slotCount r m c .call) × First k (causes slotCount r m c))

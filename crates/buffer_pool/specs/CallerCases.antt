@@ -9,7 +9,7 @@ use Rattle.buffer_pool.specs.declared.buffer_pool.PoolMode.the-variants.
 use Rattle.buffer_pool.specs.declared.buffer_pool.Memory.the-variants.{Pool, Overflow}
 use Rattle.buffer_pool.specs.declared.buffer_pool.Answer.{Answer}
 use Rattle.buffer_pool.specs.declared.buffer_pool.Answer.the-variants.{Done, Reserved, Framed, Taken, Refused}
-use Rattle.buffer_pool.specs.Record.{slotCount, newRecord, marked, placed}
+use Rattle.buffer_pool.specs.Record.{slotCount, callerCount, newRecord, marked, placed}
 use Rattle.buffer_pool.specs.Moves.{Memories, memories}
 use Rattle.buffer_pool.specs.Steps.{at, mostSerials}
 use Rattle.buffer_pool.specs.Calls.{Outcome}
@@ -52,7 +52,7 @@ spent = marked (empty 16) 0 zeros zeros zeros zeros (mostSerials ∷ 0 ∷ 0 ∷
 -- 11.31: slot 1 is live, 2 bytes at 0, and has caller 4
 abbrev pub damaged : BufferPool
 damaged =
-    placed (marked (empty 16) 128 zeros (set zeros 0 2) (set zeros 0 1) (set zeros 0 4) (replicate 4 0)) Back 0 1 1 2
+    placed (marked (empty 16) 128 zeros (set zeros 0 2) (set zeros 0 1) (set zeros 0 4) (replicate callerCount 0)) Back 0 1 1 2
 
 unfoldable pub callerTable : List CallerCase
 callerTable =

@@ -122,7 +122,7 @@ abbrev pub copiedOutOn : Bool → BufferPool → Called
 copiedOutOn true r = refused r 6
 copiedOutOn false r = called (framed r Alloc (r .«raw_offset») (r .«raw_len») (r .kept - r .cursor) 0 0) (Copied (r .cursor))
 
--- SPECIFICATION 7.5 to 7.7: is the caller none of the callers (12)? is the frame empty? longer than the destination? are all
+-- SPECIFICATION 7.5 to 7.7: is the number no caller (12)? is the frame empty? longer than the destination? are all
 -- serials given to the caller? Of an empty frame: "No slot, no serial, no copy"
 unfoldable pub takeOn : Bool → Bool → Bool → Bool → PoolMode → ℕ → ℕ → BufferPool → Called
 takeOn true empty long spent mode w caller r = refused r 12

@@ -64,7 +64,7 @@ named h = record { slot = h .slot; start = h .start; length = h .length; serial 
 abbrev pub byteOr : ℕ → ℕ → ℕ
 byteOr other number = pick (ltb number 256) number other
 
--- the handle with its slot and its caller in a byte each: 0 is no slot and 255 no caller, and nor is what has no byte
+-- the handle with its slot and its caller in a byte each: 0 is no slot and 255 no caller, and neither is a number that has no byte
 -- (proofs/ResultLaws.antt, `in-bytes`)
 abbrev pub inBytes : Handle → Handle
 inBytes h =

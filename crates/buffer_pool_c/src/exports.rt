@@ -78,7 +78,8 @@ pub extern "C" fn buffer_pool_truncate(
     called.result
 }
 
-// The frame becomes a slice of the pool, or is copied to the destination. Refuses with 1, 2, 6 and 8.
+// The frame becomes a slice of the pool, with the next serial of this caller, or is copied to the destination. Refuses with 1, 2, 12, 6
+// and 8.
 #[no_mangle]
 pub extern "C" fn buffer_pool_take(
     held: &mut Record,

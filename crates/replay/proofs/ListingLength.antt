@@ -17,8 +17,8 @@ use Rattle.trace.specs.declared.Header.{Header}
 use Rattle.trace.specs.declared.Answer as trace
 use Rattle.trace.specs.declared.Answer.the-variants.{Trace, BadHeader, BadEvent}
 use Rattle.trace.specs.Trace.{sizeLimit, eventCount, reading}
-use Rattle.trace.specs.Content.{Content, content}
-use Rattle.trace.proofs.Accepted.{Callers, accepted-use, headed-use, good-callers}
+use Rattle.trace.specs.Content.{Content, content, Callers}
+use Rattle.trace.proofs.Accepted.{accepted-use, accepted-callers, headed-use}
 use Rattle.trace.proofs.ReadLaws.{length-events}
 use Rattle.io.specs.Counts.{Counts}
 use Rattle.io.proofs.Counting.{counts}
@@ -123,7 +123,7 @@ accepted-length file h e =
     let A = accepted-use file h e in
     let H = headed-use file (A .0) in
     run-length _ _ (content file) (rw length-replicate (H .capacity-within)) (rw length-replicate (H .overflow-within))
-    (omega (arith, length-events file 0 (eventCount file), H .bytes-next, H .bytes-last, H .within)) (good-callers file 0 (eventCount file) (A .1))
+    (omega (arith, length-events file 0 (eventCount file), H .bytes-next, H .bytes-last, H .within)) (accepted-callers file h e)
 
 -- the listing of every file fits an output of this length
 pub listing-fits : (file : List ℕ) → length (listing file) ≤ listingLimit

@@ -2,14 +2,14 @@
 -- `bytes` give the parts of `content`.
 use mathlib.Core.Bool.{Bool, _&&_}
 use mathlib.Core.List.{List, [], _∷_, _++_}
-use Prim.Native.Nat.{ℕ, zero, suc, _+_, _/_, _%_, _^_, _<_}
+use Prim.Native.Nat.{ℕ, zero, suc, _+_, _/_, _%_, _^_, _<_, _≤_}
 use lib.Dec.{leb}
 use lib.ListN.{length, getD, drop}
 use Rattle.laws.specs.Tests.{pick}
 use Rattle.trace.specs.declared.Header.{Header}
 use Rattle.trace.specs.declared.Event.{Event}
 use Rattle.trace.specs.declared.Answer.{Answer}
-use Rattle.trace.specs.Trace.{sizeLimit, fileLimit, headerLength, capacityOf, overflowOf, eventCount, byteOffset, eventPlace, eventAt, right, answerOn}
+use Rattle.trace.specs.Trace.{mostCaller, sizeLimit, fileLimit, headerLength, capacityOf, overflowOf, eventCount, byteOffset, eventPlace, eventAt, right, answerOn}
 
 -- the sizes, the events in their order, and the bytes for the frames
 pub record Content : Type 0 where
@@ -105,6 +105,10 @@ firstWrong i (e ∷ events) = pick (right e) (firstWrong (suc i) events) (suc i)
 -- what the tests of 9 and 10 give on c; for a c that passes, what reading its file gives
 unfoldable pub checked : Content → Answer
 checked c = answerOn (fits c) (firstWrong 0 (c .events)) (headerFor c)
+
+-- no event's caller is above 3
+abbrev pub Callers : List Event → Type 0
+Callers events = (i : ℕ) → getD events i noEvent .caller ≤ mostCaller
 
 -- every event's number is a 32-bit one
 abbrev pub Narrow : List Event → Type 0

@@ -2,7 +2,8 @@
 -- A file is the list of its bytes. `reading` is what `read` answers.
 use mathlib.Core.Bool.{Bool, true, false, _&&_, _||_}
 use mathlib.Core.List.{List, [], _∷_}
-use Prim.Native.Nat.{ℕ, zero, suc, _+_, _*_}
+use mathlib.Core.Path.{_≡_}
+use Prim.Native.Nat.{ℕ, zero, suc, _+_, _*_, _≤_}
 use lib.Dec.{leb, eqb}
 use lib.ListN.{length, getD}
 use Rattle.laws.specs.Lists.{part}
@@ -139,6 +140,14 @@ right e = leb reserveKind (e .kind) && (leb (e .kind) releaseKind && (callerRigh
 -- 9.5: the event of index i is good
 unfoldable pub goodAt : List ℕ → ℕ → Bool
 goodAt file i = fillerZero file i && right (eventAt file i)
+
+-- W-205, "Old traces": the event of index i is good by the rule that traces had before there were callers, three filler bytes 0
+pub record OldEvent (file : List ℕ) (i : ℕ) : Type 0 where
+  pub kind-is : (reserveKind ≤ eventAt file i .kind) × (eventAt file i .kind ≤ releaseKind)
+  pub first-zero : getD file (eventPlace i + 1) 0 ≡ 0
+  pub second-zero : getD file (eventPlace i + 2) 0 ≡ 0
+  pub third-zero : getD file (eventPlace i + 3) 0 ≡ 0
+  pub take-zero : eventAt file i .kind ≡ takeKind → eventAt file i .number ≡ 0
 
 -- the first bad event of the n from index i on, counted from 1, and 0 where all n are good
 unfoldable pub firstBad : List ℕ → ℕ → ℕ → ℕ

@@ -1,4 +1,4 @@
-//! The mixes of calls that are timed. Caller 0 makes all of them.
+//! The mixes of calls that are timed. Every take is by caller 0.
 
 use crate::sides::{Kept, Side, NOT_KEPT};
 use oracle::calls::{Event, List, Name};
