@@ -1,30 +1,33 @@
 /* The proved frame pool, for C and C++ on x86-64. Link target/staticlib/libbuffer_pool_c.a.
  *
  * A frame is the bytes being gathered for one entry. A reservation is the range last offered to extend it. A slice is a
- * finished frame that lives in the pool until it is released; a pool has eight slots for slices. The overflow is a second
- * memory, which takes a frame that the pool has no place for; such a frame is copied out when it is taken.
+ * finished frame that lives in the pool until it is released; a pool has 8 or 16 slots for slices, as new is told. The overflow is
+ * a second memory, which takes a frame that the pool has no place for; such a frame is copied out when it is taken.
  *
  * Four callers, 0 to 3, can share a pool. A take names its caller, and each caller's slices have serials of their own, 1, 2, 3, ..
  * without gaps. So two live slices may have one serial, under two callers: a slice is named by its whole handle.
  *
  * A pool is a record and two lent memories: the pool memory and the overflow. Its owner keeps all three and lends them to
- * every call. No call allocates, waits, or keeps a pointer. Every call answers, for every record, handle, caller and length, with
- * a result or a refusal:
+ * every call. No call allocates, waits, or keeps a pointer. Every call answers, for every record, handle, caller, slot count and
+ * length, with a result or a refusal:
  *
- *   1  the record fails the soundness test (among others: a mode that is no mode, a bit of live beyond the slots')
+ *   1  the record fails the soundness test (among others: a slot count that is neither 8 nor 16, a mode that is no mode, a bit of
+ *      live beyond the slots')
  *   2  a lent memory's length is not the record's
  *   3  new: either memory has more than 1,048,576 bytes
  *   4  reserve: the overflow would be used, and frame and reservation together exceed it
  *   5  commit: the length exceeds the reservation
  *   6  take: the frame lies in the overflow and is longer than the destination
- *   7  release, slice: the handle's slot is not 1 to 8 or not live, its caller is above 3, or start, length, serial or caller are
- *      not that slot's
+ *   7  release, slice: the handle's slot is not one of 1 to the pool's slot count or not live, its caller is above 3, or start,
+ *      length, serial or caller are not that slot's
  *   8  take: the frame is not empty, lies in the pool, and all 4,294,967,295 serials of the caller were given
  *  12  take: the caller is above 3
+ *  16  new: the slot count is neither 8 nor 16
  *
- * They are tested in this order: 1, 2, then the call's own, of a take 12 before 6 and 8; new gives only 3. 9 and 10 are of a trace
- * file and no call gives them. A refused call changes nothing: the record, both memories and the destination keep every byte, and
- * every number of its result but the refusal is 0. What is not refused has refusal 0.
+ * They are tested in this order: 1, 2, then the call's own, of a take 12 before 6 and 8; new tests 16, then 3, and gives no other. 9
+ * and 10 are of a trace file and no call gives them. A refused call changes nothing: the record, both memories and the destination
+ * keep every byte, and every number of its result is 0 but the refusal and, of a refused new, the record's slot count, which is 8.
+ * What is not refused has refusal 0.
  *
  * No struct has padding: every byte belongs to a field. A record can be stored, and records and results be compared, as bytes.
  * Every number of a result has 64 bits, but for those of a record or handle in it; release gives its refusal alone, as a byte.
@@ -47,8 +50,8 @@
 extern "C" {
 #endif
 
-/* How many slices can live in a pool, how many callers can take, and the most bytes that either memory may have. */
-#define BUFFER_POOL_SLOTS 8
+/* The most slots that a pool may have, how many callers can take, and the most bytes that either memory may have. */
+#define BUFFER_POOL_MOST_SLOTS 16
 #define BUFFER_POOL_CALLERS 4
 #define BUFFER_POOL_BYTE_LIMIT 1048576
 
@@ -76,33 +79,35 @@ enum {
     BUFFER_POOL_DESTINATION_TOO_SHORT = 6,
     BUFFER_POOL_NOT_LIVE = 7,
     BUFFER_POOL_NO_SERIALS = 8,
-    BUFFER_POOL_UNKNOWN_CALLER = 12
+    BUFFER_POOL_UNKNOWN_CALLER = 12,
+    BUFFER_POOL_WRONG_SLOT_COUNT = 16
 };
 
 /* The pool's record. buffer_pool_new makes it and the calls change it; its owner may read and copy it. It may be kept anywhere,
  * but its bytes are the pool's only knowledge of its memories: two copies of a record used on the same memories are two pools
- * that do not know of each other. */
+ * that do not know of each other. Records of 8 and of 16 slots have one size; entries above the slot count are never read. */
 typedef struct {
-    uint64_t capacity;                   /* length of the pool memory */
-    uint64_t overflow;                   /* length of the overflow */
-    uint32_t starts[BUFFER_POOL_SLOTS];  /* start, */
-    uint32_t lengths[BUFFER_POOL_SLOTS]; /* length */
-    uint32_t serials[BUFFER_POOL_SLOTS]; /* and serial of the slice last taken in each slot; slot 1 comes first */
-    uint32_t given[BUFFER_POOL_CALLERS]; /* serials given to each caller; caller 0 comes first */
-    uint8_t callers[BUFFER_POOL_SLOTS];  /* caller of the slice last taken in each slot */
-    uint32_t live;                       /* slot p is live if the bit 0x80 >> (p - 1) is set; no other bit is */
-    uint32_t mode;                       /* BUFFER_POOL_BACK, .._FRONT or .._OVERFLOW */
-    size_t back_start;                   /* the slots before the back */
-    size_t back_len;                     /* the slots of the back */
-    size_t used;                         /* slots used */
-    uint64_t raw_offset;                 /* start */
-    uint64_t raw_len;                    /* and length of a frame in the pool */
-    size_t front_back_start;             /* slots of the front; these three are read only in mode front */
-    uint64_t front_byte_capacity;        /* bytes of the front */
-    size_t front_len;                    /* used slots of the front */
-    uint64_t kept;                       /* bytes kept in the overflow */
-    uint64_t cursor;                     /* length of a frame in the overflow */
-    uint64_t reserved;                   /* length of the reservation, 0 once it is spent */
+    uint64_t capacity;                        /* length of the pool memory */
+    uint64_t overflow;                        /* length of the overflow */
+    size_t slots;                             /* the slot count, 8 or 16 */
+    uint32_t starts[BUFFER_POOL_MOST_SLOTS];  /* start, */
+    uint32_t lengths[BUFFER_POOL_MOST_SLOTS]; /* length */
+    uint32_t serials[BUFFER_POOL_MOST_SLOTS]; /* and serial of the slice last taken in each slot; slot 1 comes first */
+    uint32_t given[BUFFER_POOL_CALLERS];      /* serials given to each caller; caller 0 comes first */
+    uint8_t callers[BUFFER_POOL_MOST_SLOTS];  /* caller of the slice last taken in each slot */
+    uint32_t live;                            /* slot p is live if the bit 1 << (slots - p) is set; no other bit is */
+    uint32_t mode;                            /* BUFFER_POOL_BACK, .._FRONT or .._OVERFLOW */
+    size_t back_start;                        /* the slots before the back */
+    size_t back_len;                          /* the slots of the back */
+    size_t used;                              /* slots used */
+    uint64_t raw_offset;                      /* start */
+    uint64_t raw_len;                         /* and length of a frame in the pool */
+    size_t front_back_start;                  /* slots of the front; these three are read only in mode front */
+    uint64_t front_byte_capacity;             /* bytes of the front */
+    size_t front_len;                         /* used slots of the front */
+    uint64_t kept;                            /* bytes kept in the overflow */
+    uint64_t cursor;                          /* length of a frame in the overflow */
+    uint64_t reserved;                        /* length of the reservation, 0 once it is spent */
 } buffer_pool_record;
 
 /* A range of bytes: length bytes from start on, in the memory that is named. */
@@ -118,7 +123,7 @@ typedef struct {
     uint32_t start;  /* the slice's place in the pool memory */
     uint32_t length;
     uint32_t serial; /* 1, 2, 3, .. over the takes of its caller that gave a slice */
-    uint16_t slot;   /* 1 to 8 */
+    uint16_t slot;   /* 1 to the pool's slot count */
     uint16_t caller; /* 0 to 3 */
 } buffer_pool_handle;
 
@@ -155,11 +160,12 @@ typedef struct {
     typedef char buffer_pool_##type##_has_##bytes##_bytes_and_no_padding \
         [sizeof(buffer_pool_##type) == bytes && (fields) == bytes ? 1 : -1]
 
-BUFFER_POOL_LAYOUT(record, 232,
-                   BUFFER_POOL_OF(record, capacity) + BUFFER_POOL_OF(record, overflow) + BUFFER_POOL_OF(record, starts)
-                       + BUFFER_POOL_OF(record, lengths) + BUFFER_POOL_OF(record, serials) + BUFFER_POOL_OF(record, given)
-                       + BUFFER_POOL_OF(record, callers) + BUFFER_POOL_OF(record, live) + BUFFER_POOL_OF(record, mode)
-                       + BUFFER_POOL_OF(record, back_start) + BUFFER_POOL_OF(record, back_len) + BUFFER_POOL_OF(record, used)
+BUFFER_POOL_LAYOUT(record, 344,
+                   BUFFER_POOL_OF(record, capacity) + BUFFER_POOL_OF(record, overflow) + BUFFER_POOL_OF(record, slots)
+                       + BUFFER_POOL_OF(record, starts) + BUFFER_POOL_OF(record, lengths) + BUFFER_POOL_OF(record, serials)
+                       + BUFFER_POOL_OF(record, given) + BUFFER_POOL_OF(record, callers) + BUFFER_POOL_OF(record, live)
+                       + BUFFER_POOL_OF(record, mode) + BUFFER_POOL_OF(record, back_start)
+                       + BUFFER_POOL_OF(record, back_len) + BUFFER_POOL_OF(record, used)
                        + BUFFER_POOL_OF(record, raw_offset) + BUFFER_POOL_OF(record, raw_len)
                        + BUFFER_POOL_OF(record, front_back_start)
                        + BUFFER_POOL_OF(record, front_byte_capacity) + BUFFER_POOL_OF(record, front_len)
@@ -173,14 +179,15 @@ BUFFER_POOL_LAYOUT(reserved, 40,
 BUFFER_POOL_LAYOUT(placed, 32, BUFFER_POOL_OF(placed, place) + BUFFER_POOL_OF(placed, refusal));
 BUFFER_POOL_LAYOUT(taken, 32,
                    BUFFER_POOL_OF(taken, handle) + BUFFER_POOL_OF(taken, copied) + BUFFER_POOL_OF(taken, refusal));
-BUFFER_POOL_LAYOUT(created, 240, BUFFER_POOL_OF(created, record) + BUFFER_POOL_OF(created, refusal));
+BUFFER_POOL_LAYOUT(created, 352, BUFFER_POOL_OF(created, record) + BUFFER_POOL_OF(created, refusal));
 
 #undef BUFFER_POOL_LAYOUT
 #undef BUFFER_POOL_OF
 
-/* Makes a pool. The pool memory is filled with zeros; the overflow counts as empty and its bytes stay.
- * Refuses with 3; the record is then that of a new pool whose two lengths are 0. */
-buffer_pool_created buffer_pool_new(uint8_t *pool, size_t pool_len, const uint8_t *overflow, size_t overflow_len);
+/* Makes a pool of 8 or 16 slots. The pool memory is filled with zeros; the overflow counts as empty and its bytes stay.
+ * Refuses with 16 and 3; the record is then that of a new pool of 8 slots whose two lengths are 0. */
+buffer_pool_created buffer_pool_new(size_t slots, uint8_t *pool, size_t pool_len, const uint8_t *overflow,
+                                    size_t overflow_len);
 
 /* Makes room for len more bytes after the frame and gives their place and the count of mode changes. May move the frame within
  * the pool, to the overflow, or back; a reservation not yet committed is given up. The bytes offered are those that earlier

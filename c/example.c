@@ -1,5 +1,6 @@
-/* The logs of an e-book reader: the writers of page turns and of crashes share a pool, each with serials of its own. Three entries
- * are written, one of them too long for the pool; they are read and released, one of them twice and one for the wrong writer.
+/* The logs of an e-book reader: the writers of page turns and of crashes share a pool of 8 slots, each with serials of its own. Three
+ * entries are written, one of them too long for the pool; they are read and released, one of them twice and one for the wrong
+ * writer. Then the same memories are a pool of 16 slots, in which the text to be spoken is read ahead.
  * c/run builds it and compares what it prints. */
 #include "buffer_pool.h"
 
@@ -18,6 +19,7 @@ static buffer_pool_record record;
 enum {
     PAGE_TURNS = 0,
     CRASHES = 1,
+    SPEECH = 2,
     NOBODY = BUFFER_POOL_CALLERS
 };
 
@@ -36,16 +38,22 @@ static uint8_t *bytes_at(buffer_pool_place place)
     return (place.memory == BUFFER_POOL_OVERFLOW_MEMORY ? overflow : pool) + place.start;
 }
 
+/* Makes a new pool of the memories. */
+static void make_pool(size_t slots)
+{
+    buffer_pool_created created = buffer_pool_new(slots, pool, sizeof pool, overflow, sizeof overflow);
+    done("new", created.refusal);
+    record = created.record;
+}
+
 static buffer_pool_taken take(uint64_t caller)
 {
     return buffer_pool_take(&record, pool, sizeof pool, overflow, sizeof overflow, caller, page, sizeof page);
 }
 
 /* Writes one entry of a caller: reserve, write, commit, take. */
-static buffer_pool_taken write_entry(uint64_t caller, const char *text)
+static buffer_pool_taken write_bytes(uint64_t caller, const char *text, size_t len)
 {
-    size_t len = strlen(text);
-
     buffer_pool_reserved reserved =
         buffer_pool_reserve(&record, pool, sizeof pool, overflow, sizeof overflow, len);
     done("reserve", reserved.refusal);
@@ -59,6 +67,12 @@ static buffer_pool_taken write_entry(uint64_t caller, const char *text)
     return taken;
 }
 
+/* The same with a whole text. */
+static buffer_pool_taken write_entry(uint64_t caller, const char *text)
+{
+    return write_bytes(caller, text, strlen(text));
+}
+
 /* Prints an entry that lives in the pool, as its view shows it. */
 static void print_slice(const char *name, buffer_pool_handle handle)
 {
@@ -70,16 +84,31 @@ static void print_slice(const char *name, buffer_pool_handle handle)
            (int)view.place.length, (const char *)bytes_at(view.place));
 }
 
+/* Prints an entry that was copied out of the overflow. */
+static void print_copied(const char *name, buffer_pool_taken taken)
+{
+    printf("%s: slot %u, copied %d: %.*s\n", name, (unsigned)taken.handle.slot, (int)taken.copied, (int)taken.copied,
+           (const char *)page);
+}
+
+/* Reserves the next frame, and prints where it lies. */
+static void print_next(uint64_t len)
+{
+    buffer_pool_reserved next = buffer_pool_reserve(&record, pool, sizeof pool, overflow, sizeof overflow, len);
+    done("reserve", next.refusal);
+    printf("next: start %d, length %d, mode %u, changes %u\n", (int)next.place.start, (int)next.place.length,
+           (unsigned)record.mode, (unsigned)next.changes);
+}
+
 static uint8_t release(buffer_pool_handle handle)
 {
     return buffer_pool_release(&record, pool, sizeof pool, overflow, sizeof overflow, handle);
 }
 
-int main(void)
+/* The log, in a pool of 8 slots. */
+static void keep_log(void)
 {
-    buffer_pool_created created = buffer_pool_new(pool, sizeof pool, overflow, sizeof overflow);
-    done("new", created.refusal);
-    record = created.record;
+    make_pool(8);
 
     buffer_pool_taken first = write_entry(PAGE_TURNS, "page 12");
     buffer_pool_taken second = write_entry(CRASHES, "crash in 41 s");
@@ -87,9 +116,7 @@ int main(void)
     print_slice("second", second.handle);
 
     /* 20 bytes of the pool are held, so 20 more go to the overflow. */
-    buffer_pool_taken third = write_entry(PAGE_TURNS, "page 14, large print");
-    printf("third: slot %u, copied %d: %.*s\n", (unsigned)third.handle.slot, (int)third.copied, (int)third.copied,
-           (const char *)page);
+    print_copied("third", write_entry(PAGE_TURNS, "page 14, large print"));
 
     done("release", release(first.handle));
     printf("first released, live slots %02x\n", (unsigned)record.live);
@@ -110,10 +137,39 @@ int main(void)
     printf("take for nobody: refused with %u\n", (unsigned)take(NOBODY).refusal);
 
     /* No slice is live, so the whole pool is free again. */
-    buffer_pool_reserved next =
-        buffer_pool_reserve(&record, pool, sizeof pool, overflow, sizeof overflow, sizeof pool);
-    done("reserve", next.refusal);
-    printf("next: start %d, length %d, mode %u, changes %u\n", (int)next.place.start, (int)next.place.length,
-           (unsigned)record.mode, (unsigned)next.changes);
+    print_next(sizeof pool);
+}
+
+/* Text that is read ahead in pieces of 2 bytes, in a pool of 16 slots. */
+static void read_ahead(void)
+{
+    enum { SLOTS = 16, PIECE = 2 };
+    const char *text = "Call me Ishmael. Some years ago-never mind how long";
+    buffer_pool_handle pieces[SLOTS];
+
+    make_pool(SLOTS);
+    for (int at = 0; at < SLOTS; at++) {
+        pieces[at] = write_bytes(SPEECH, text + at * PIECE, PIECE).handle;
+    }
+    print_slice("piece 1", pieces[0]);
+    print_slice("piece 16", pieces[SLOTS - 1]);
+    printf("all pieces held, live slots %04x\n", (unsigned)record.live);
+    print_copied("piece 17", write_bytes(SPEECH, text + SLOTS * PIECE, PIECE));
+
+    /* Nine pieces were spoken: their 18 bytes are the front of the pool. */
+    for (int at = 0; at < 9; at++) {
+        done("release", release(pieces[at]));
+    }
+    printf("nine pieces released, live slots %04x\n", (unsigned)record.live);
+    print_next(18);
+
+    printf("a pool of 9 slots: refused with %u\n",
+           (unsigned)buffer_pool_new(9, pool, sizeof pool, overflow, sizeof overflow).refusal);
+}
+
+int main(void)
+{
+    keep_log();
+    read_ahead();
     return 0;
 }

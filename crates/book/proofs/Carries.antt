@@ -205,12 +205,12 @@ module _ (w : ℕ) (r : BufferPool) (S : Orderly w r) where
   movesOf = resetMoves (resets r) (ltb (r .cursor) (r .capacity)) (eqb (r .cursor) 0) (r .mode) r
 
   -- what is carried past a reset: where there is one, no slot is live
-  past-reset : {m m′ : Memories} {a b : List ℕ} → Carried w (fixed (reset w r)) m m′ a b → Carried w (fixed r) m m′ a b
+  past-reset : {m m′ : Memories} {a b : List ℕ} → Carried w (fixed (reset r)) m m′ a b → Carried w (fixed r) m m′ a b
   unfolding reset resetOn
   past-reset {m} {m′} {a} {b} = go (resets r) refl
     where
       go : (x : Bool) → resets r ≡ x
-          → Carried w (fixed (resetOn x (ltb (r .cursor) (r .capacity)) (eqb (r .cursor) 0) (r .mode) w r)) m m′ a b
+          → Carried w (fixed (resetOn x (ltb (r .cursor) (r .capacity)) (eqb (r .cursor) 0) (r .mode) r)) m m′ a b
           → Carried w (fixed r) m m′ a b
       go false p C = C
       go true p C =
@@ -221,11 +221,11 @@ module _ (w : ℕ) (r : BufferPool) (S : Orderly w r) where
             frame = C .frame;
           }
 
-  reset-sized : {m : Memories} → Sized (fixed r) m → Sized (fixed (reset w r)) m
+  reset-sized : {m : Memories} → Sized (fixed r) m → Sized (fixed (reset r)) m
   unfolding reset resetOn
   reset-sized {m} Z = go (resets r) (ltb (r .cursor) (r .capacity)) (eqb (r .cursor) 0) (r .mode)
     where
-      go : (x t z : Bool) (mode : PoolMode) → Sized (fixed (resetOn x t z mode w r)) m
+      go : (x t z : Bool) (mode : PoolMode) → Sized (fixed (resetOn x t z mode r)) m
       go false t z mode = Z
       go true t z Back = Z
       go true t z (Front f) = Z
@@ -235,7 +235,7 @@ module _ (w : ℕ) (r : BufferPool) (S : Orderly w r) where
 
   reset-carries : (m : Memories) → Sized (fixed r) m
       → Carried w (fixed r) m (perform movesOf m) (shownIn (r .mode) r m)
-      (shownIn (reset w r .mode) (reset w r) (perform movesOf m))
+      (shownIn (reset r .mode) (reset r) (perform movesOf m))
   unfolding reset resetOn resetMoves perform act moved bytesAt
   reset-carries m Z =
       go (resets r) refl (ltb (r .cursor) (r .capacity)) refl (eqb (r .cursor) 0) refl (r .mode) refl (S .in-mode)
@@ -249,7 +249,7 @@ module _ (w : ℕ) (r : BufferPool) (S : Orderly w r) where
       go : (a : Bool) → resets r ≡ a → (t : Bool) → ltb (r .cursor) (r .capacity) ≡ t → (z : Bool) → eqb (r .cursor) 0 ≡ z
           → (mode : PoolMode) → r .mode ≡ mode → InMode w mode r (r .reserved)
           → Carried w (fixed r) m (perform (resetMoves a t z mode r) m) (shownIn mode r m)
-          (shownIn (resetOn a t z mode w r .mode) (resetOn a t z mode w r) (perform (resetMoves a t z mode r) m))
+          (shownIn (resetOn a t z mode r .mode) (resetOn a t z mode r) (perform (resetMoves a t z mode r) m))
       go false p t q z s mode e I = rw e (still refl)
       go true p t q z s Back e I =
           home p (omega (arith, I .fits))
@@ -282,8 +282,8 @@ unfolding place
 place-carries w len r S m Z h =
     let f = reset-fit w r S in
     let C = reset-carries w r S m Z in
-    appended (movesOf w r S) (placeOf w mostChanges false (reset w r .mode) (reset w r) len .moves)
+    appended (movesOf w r S) (placeOf w mostChanges false (reset r .mode) (reset r) len .moves)
     (shownIn (place w r len .next .mode) (place w r len .next)) C
     (past-reset w r S
-    (place-brings w len mostChanges false (reset w r .mode) (reset w r) (f .0) (f .1) (perform (movesOf w r S) m)
+    (place-brings w len mostChanges false (reset r .mode) (reset r) (f .0) (f .1) (perform (movesOf w r S) m)
     (reset-sized w r S (sized-after Z C)) h))

@@ -1,12 +1,14 @@
--- Demand 3, at every slot count w (the pool's is 8): `book-kept` is its first part, `alike` its second (terms in
+-- Demand 3, at both slot counts w: `book-kept` is its first part, `alike` its second, over lists that share the count (terms in
 -- specs/Demand3.antt); and W-205 on the same lists, `serials-own`, `serials-from-one` and `one-slice-of-a-serial` (terms in
 -- specs/Serials.antt). Assumes nothing.
 use mathlib.Core.Path.{_≡_}
+use mathlib.Core.Bool.{true}
 use mathlib.Core.List.{List}
 use Prim.Native.Nat.{ℕ, suc, _≤_, _<_}
 use lib.ListN.{length}
 use Rattle.buffer_pool.specs.declared.slice.Handle.{Handle}
 use Rattle.buffer_pool.specs.Record.{byteLimit}
+use Rattle.buffer_pool.specs.Soundness.{isCount}
 use Rattle.buffer_pool.specs.Moves.{Memories}
 use Rattle.buffer_pool.specs.Values.{noPlace, valued, refusal}
 use Rattle.buffer_pool.specs.Calls.{new}
@@ -19,23 +21,23 @@ use Rattle.book.proofs.Keeps.{new-agrees, new-unrefused, always}
 use Rattle.book.proofs.Same.{seen-alike}
 use Rattle.book.proofs.Serials.{own-serial, own-serials, one-of-serial}
 
--- memories within the limit start a list
-pub unrefused : (w : ℕ) (m : Memories) → length (m .pool) ≤ byteLimit → length (m .overflow) ≤ byteLimit
+-- 8 or 16 slots and memories within the limit start a list
+pub unrefused : (w : ℕ) (m : Memories) → isCount w ≡ true → length (m .pool) ≤ byteLimit → length (m .overflow) ≤ byteLimit
     → refusal (new w m .call .answer) ≡ 0
-unrefused w m p o = new-unrefused w m p o
+unrefused w m i p o = new-unrefused w m i p o
 
 -- from what an unrefused new returned, whatever bytes it was lent: for every list of entries, before the first and after
 -- each, the book is kept
-pub book-kept : (w : ℕ) (m : Memories) (es : List Entry) → 0 < w → refusal (new w m .call .answer) ≡ 0
+pub book-kept : (w : ℕ) (m : Memories) (es : List Entry) → refusal (new w m .call .answer) ≡ 0
     → Always w (opened w m) emptyBook es
-book-kept w m es h u = always w es (opened w m) emptyBook (new-agrees w m h u)
+book-kept w m es u = always w es (opened w m) emptyBook (new-agrees w m u)
 
--- from memories of the same lengths, two lists of the same calls, handles and lengths are seen alike at every call, whatever
--- bytes the memories hold and whatever is written
-pub alike : (w : ℕ) (m m′ : Memories) (es es′ : List Entry) → 0 < w → refusal (new w m .call .answer) ≡ 0
+-- with one slot count and from memories of the same lengths, two lists of the same calls, handles and lengths are seen alike at every
+-- call, whatever bytes the memories hold and whatever is written
+pub alike : (w : ℕ) (m m′ : Memories) (es es′ : List Entry) → refusal (new w m .call .answer) ≡ 0
     → length (m .pool) ≡ length (m′ .pool) → length (m .overflow) ≡ length (m′ .overflow) → calls es ≡ calls es′
     → seen w (opened w m) es ≡ seen w (opened w m′) es′
-alike w m m′ es es′ h u p o e = seen-alike w m m′ es es′ h u p o e
+alike w m m′ es es′ u p o e = seen-alike w m m′ es es′ u p o e
 
 -- W-205, "each caller has its own serials from 1": whatever entries came before, a take that gives a slice gives it its caller, and
 -- the serial that follows the caller's pooled takes so far

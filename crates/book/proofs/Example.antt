@@ -6,7 +6,7 @@ use Rattle.buffer_pool.specs.declared.buffer_pool.Memory.the-variants.{Pool, Ov
 use Rattle.buffer_pool.specs.declared.buffer_pool.Answer.{Answer}
 use Rattle.buffer_pool.specs.declared.buffer_pool.Answer.the-variants.{Done, Reserved, Framed, Taken, Copied, Refused}
 use Rattle.buffer_pool.specs.declared.slice.Handle.{Handle}
-use Rattle.buffer_pool.specs.Record.{slotCount}
+use Rattle.buffer_pool.specs.Record.{rustSlots}
 use Rattle.buffer_pool.specs.Moves.{memories}
 use Rattle.buffer_pool.specs.Steps.{at, frame, reservation}
 use Rattle.buffer_pool.specs.Calls.{bytesAt}
@@ -36,11 +36,11 @@ told s b [] = []
 told s b (e ∷ es) =
     record {
       entry = e;
-      answer = happens slotCount s e .call .answer;
-      noted = noted slotCount s b e;
-      shown = shownBeside (next slotCount s e) (noted slotCount s b e);
+      answer = happens rustSlots s e .call .answer;
+      noted = noted rustSlots s b e;
+      shown = shownBeside (next rustSlots s e) (noted rustSlots s b e);
     }
-    ∷ told (next slotCount s e) (noted slotCount s b e) es
+    ∷ told (next rustSlots s e) (noted rustSlots s b e) es
 
 -- the handle of the first take, and an invented one of the same slot
 abbrev first : Handle
@@ -105,7 +105,7 @@ entries [] = []
 entries (l ∷ ls) = l .entry ∷ entries ls
 
 abbrev start : State
-start = opened slotCount (memories (9 ∷ 9 ∷ 9 ∷ 9 ∷ []) (4 ∷ 3 ∷ 2 ∷ 1 ∷ []))
+start = opened rustSlots (memories (9 ∷ 9 ∷ 9 ∷ 9 ∷ []) (4 ∷ 3 ∷ 2 ∷ 1 ∷ []))
 
 example : told start emptyBook (entries lines) ≡ lines
 unfolding told entries lines definitions call viewOf viewAnswer sameHandle without rewritten

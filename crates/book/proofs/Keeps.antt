@@ -4,7 +4,7 @@ use mathlib.Core.Path.{_≡_, refl, sym, ap, _∙_, subst}
 use mathlib.Core.Bool.{Bool, true, false, _||_}
 use mathlib.Core.List.{List, [], _∷_, _++_}
 use mathlib.Core.Logic.{inl, inr}
-use Prim.Native.Nat.{ℕ, _+_, _≤_, _<_}
+use Prim.Native.Nat.{ℕ, _+_, _≤_}
 use native.Mathlib.Nat.{zero-add}
 use native.Mathlib.Omega.{arith}
 use borrow.Author.Tests.{ltb-false, le-ltb, eqb-true}
@@ -20,7 +20,7 @@ use Rattle.buffer_pool.specs.declared.buffer_pool.PoolMode.the-variants.{Back, 
 use Rattle.buffer_pool.specs.declared.slice.Handle.{Handle}
 use Rattle.buffer_pool.specs.Record.{byteLimit, callerCount}
 use Rattle.buffer_pool.specs.Moves.{Memories}
-use Rattle.buffer_pool.specs.Soundness.{sound}
+use Rattle.buffer_pool.specs.Soundness.{isCount, sound}
 use Rattle.buffer_pool.specs.Sound.{InMode, Orderly}
 use Rattle.buffer_pool.specs.Values.{noPlace, noHandle, Values, valued, refusal, values}
 use Rattle.buffer_pool.specs.Steps.{frameOf, frame, mostSerials, givenTo, takeOn, takeStep}
@@ -130,6 +130,7 @@ module _ (w : ℕ) (s : State) (b : Book) (G : Agrees w (s .pool) (s .lent) b) w
   unfolding Copy
   agrees-kept =
       record {
+        count = S .ready .count-is;
         live = λ x i. names-make w r (x .handle) (G .booked .named x i);
         booked = G .booked .known;
         slices = slice-shows;
@@ -151,14 +152,15 @@ module _ (w : ℕ) (m : Memories) where
   abbrev pub long : Bool
   long = ltb byteLimit (length (m .pool)) || ltb byteLimit (length (m .overflow))
 
-  pub new-agrees : 0 < w → refusal (new w m .call .answer) ≡ 0 → Agrees w (opened w m .pool) (opened w m .lent) emptyBook
+  pub new-agrees : refusal (new w m .call .answer) ≡ 0 → Agrees w (opened w m .pool) (opened w m .lent) emptyBook
   unfolding new refusal bytesAt
-  new-agrees h = go long refl
+  new-agrees = go (isCount w) refl long refl
     where
-      go : (t : Bool) → long ≡ t → refusal (newOn t w m .call .answer) ≡ 0
-          → Agrees w (newOn t w m .call .pool) (newOn t w m .memory) emptyBook
-      go true e u = absurd (omega arith)
-      go false e u =
+      go : (i : Bool) → isCount w ≡ i → (t : Bool) → long ≡ t → refusal (newOn i t w m .call .answer) ≡ 0
+          → Agrees w (newOn i t w m .call .pool) (newOn i t w m .memory) emptyBook
+      go false h t e u = absurd (omega arith)
+      go true h true e u = absurd (omega arith)
+      go true h false e u =
           let x = either-false (ltb byteLimit (length (m .pool))) _ e in
           record {
             sound =
@@ -177,10 +179,11 @@ module _ (w : ℕ) (m : Memories) where
                 };
           }
 
-  -- memories within the limit are not refused
-  pub new-unrefused : length (m .pool) ≤ byteLimit → length (m .overflow) ≤ byteLimit → refusal (new w m .call .answer) ≡ 0
+  -- a slot count and memories within the limit are not refused
+  pub new-unrefused : isCount w ≡ true → length (m .pool) ≤ byteLimit → length (m .overflow) ≤ byteLimit
+      → refusal (new w m .call .answer) ≡ 0
   unfolding new refusal
-  new-unrefused p o = rw (le-ltb byteLimit (length (m .pool)) p, le-ltb byteLimit (length (m .overflow)) o)
+  new-unrefused i p o = rw (i, le-ltb byteLimit (length (m .pool)) p, le-ltb byteLimit (length (m .overflow)) o)
 
 -- ---- Every list
 

@@ -3,7 +3,7 @@
 use mathlib.Core.Path.{_≡_, refl, sym, ap, _∙_}
 use mathlib.Core.Bool.{Bool, true, false}
 use mathlib.Core.List.{List, [], _∷_}
-use Prim.Native.Nat.{ℕ, _<_}
+use Prim.Native.Nat.{ℕ}
 use lib.ListN.{length, length-replicate}
 use Rattle.buffer_pool.specs.declared.buffer_pool.BufferPool.{BufferPool}
 use Rattle.buffer_pool.specs.declared.buffer_pool.Answer.the-variants.{Done}
@@ -14,6 +14,7 @@ use Rattle.buffer_pool.specs.Steps.{called, refused, frame, reservation, takeSt
 use Rattle.buffer_pool.specs.declared.buffer_pool.View.{View}
 use Rattle.buffer_pool.specs.Calls.{Outcome, misfit, newOn, new, copiedOut, shown, reservationView}
 use Rattle.buffer_pool.specs.Vocabulary.{TheFrame, TheReservation, Call, Reserve, Commit, Truncate, Take, Release, Look, viewOf, call}
+use Rattle.buffer_pool.specs.Soundness.{isCount}
 use Rattle.book.specs.Entries.{Entry, Own, Other, Write, State, opened, lentOther, happens, next}
 use Rattle.book.specs.Book.{Book, emptyBook, noted}
 use Rattle.book.specs.Demand3.{blankMemories, blankCall, calls, Seen, seenAt, seen}
@@ -120,19 +121,20 @@ module _ (w : ℕ) where
   unfolding new
   new-same m m′ p o =
       let q : long w m ≡ long w m′ = rw (p, o) refl in
-      go (long w m) ∙ ap (λ (t : Bool). newOn t w m′ .call) q
+      go (isCount w) (long w m) ∙ ap (λ (t : Bool). newOn (isCount w) t w m′ .call) q
     where
-      go : (t : Bool) → newOn t w m .call ≡ newOn t w m′ .call
-      go true = refl
-      go false = rw (p, o) refl
+      go : (i t : Bool) → newOn i t w m .call ≡ newOn i t w m′ .call
+      go false t = refl
+      go true true = refl
+      go true false = rw (p, o) refl
 
-  pub seen-alike : (m m′ : Memories) (es es′ : List Entry) → 0 < w → refusal (new w m .call .answer) ≡ 0
+  pub seen-alike : (m m′ : Memories) (es es′ : List Entry) → refusal (new w m .call .answer) ≡ 0
       → length (m .pool) ≡ length (m′ .pool) → length (m .overflow) ≡ length (m′ .overflow) → calls es ≡ calls es′
       → seen w (opened w m) es ≡ seen w (opened w m′) es′
-  seen-alike m m′ es es′ h u p o e =
+  seen-alike m m′ es es′ u p o e =
       let c = new-same m m′ p o in
-      let G = new-agrees w m h u in
-      let H = new-agrees w m′ h (ap (λ (x : Called). refusal (x .answer)) (sym c) ∙ u) in
+      let G = new-agrees w m u in
+      let H = new-agrees w m′ (ap (λ (x : Called). refusal (x .answer)) (sym c) ∙ u) in
       seen-same es (opened w m) (opened w m) emptyBook emptyBook G G refl
       ∙ ap (seen w (opened w m)) e
       ∙ sym (seen-same es′ (opened w m′) (opened w m) emptyBook emptyBook H G (ap (λ (x : Called). x .pool) (sym c)))

@@ -23,10 +23,10 @@ use Rattle.buffer_pool.specs.declared.buffer_pool.Called.{Called}
 use Rattle.buffer_pool.specs.Record.{byteLimit, callerCount}
 use Rattle.buffer_pool.specs.Moves.{Memories}
 use Rattle.buffer_pool.specs.Placing.{place, tooLong}
-use Rattle.buffer_pool.specs.Soundness.{sound}
+use Rattle.buffer_pool.specs.Soundness.{isCount, sound}
 use Rattle.buffer_pool.specs.Values.{noPlace, Values, valued, values}
 use Rattle.buffer_pool.specs.Steps.{called, frameOf, frame, reserveOn, reserveStep, resized, commitStep, truncateStep, mostSerials, givenTo, nextHandle, handedOut, takeOn, takeStep, names, releaseStep}
-use Rattle.buffer_pool.specs.Calls.{Outcome, misfit, guardedCall, bytesAt, new, reserve, commit, truncate, copiedOut, take, release}
+use Rattle.buffer_pool.specs.Calls.{Outcome, misfit, guardedCall, bytesAt, newOn, new, reserve, commit, truncate, copiedOut, take, release}
 use Rattle.buffer_pool.specs.Vocabulary.{TheFrame, TheReservation, TheSlice, Call, Reserve, Commit, Truncate, Take, Release, Look, viewAnswer, call}
 use Rattle.buffer_pool.proofs.Unchanged.{place-given}
 use Rattle.book.specs.Entries.{Entry, Own, Other, Write, State, opened, lentOther, happens, next}
@@ -384,9 +384,12 @@ module _ (w : ℕ) (m : Memories) where
   -- refused or not, it has given no serial
   opened-given : opened w m .pool .given ≡ replicate callerCount 0
   unfolding new
-  opened-given =
-      pick-cases (λ (o : Outcome). o .call .pool .given ≡ replicate callerCount 0)
-      (ltb byteLimit (length (m .pool)) || ltb byteLimit (length (m .overflow))) (λ e. refl) (λ e. refl)
+  opened-given = go (isCount w) (ltb byteLimit (length (m .pool)) || ltb byteLimit (length (m .overflow)))
+    where
+      go : (i t : Bool) → newOn i t w m .call .pool .given ≡ replicate callerCount 0
+      go false t = refl
+      go true true = refl
+      go true false = refl
 
   opened-places : callerCount ≤ length (opened w m .pool .given)
   opened-places = rw opened-given (omega arith)

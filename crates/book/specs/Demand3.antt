@@ -51,6 +51,8 @@ pub record Shows (w : ℕ) (s : State) (v : Part) (p : Place) (bytes : List ℕ)
 
 -- what holds of record, memories and book, before the first entry and after each
 pub record Kept (w : ℕ) (s : State) (b : Book) : Type 0 where
+  -- w is the record's own slot count, as the contracts of the calls have it
+  pub count : s .pool .slots ≡ w
   -- 8.4, 1: "the handles in the book are those of the live slots, one for each": a handle in the book names a live slot, with
   -- that slot's start, length, serial and caller, and every live slot has its handle in the book
   pub live : (x : Pair) → Member x (b .pairs) → names w (s .pool) (x .handle) ≡ true
@@ -96,8 +98,8 @@ blankCall (Take caller destination) = Take caller (blank destination)
 blankCall (Release h) = Release h
 blankCall (Look v) = Look v
 
--- the calls of a list, every lent byte made 0 and the writes left out: two lists are, by 8.5, "alike in calls, handles and lengths"
--- if these are equal
+-- the calls of a list, every lent byte made 0 and the writes left out: two lists are, by 8.5, "alike in slot count, calls, handles and
+-- lengths" if they have one w and these are equal
 unfoldable pub calls : List Entry → List Entry
 calls [] = []
 calls (Own c ∷ es) = Own (blankCall c) ∷ calls es

@@ -16,25 +16,27 @@ use Rattle.buffer_pool.specs.declared.slice.Handle.{Handle}
 use Rattle.buffer_pool.specs.declared.buffer_pool.BufferPool.{BufferPool}
 use Rattle.buffer_pool.specs.declared.buffer_pool.Place.{Place}
 use Rattle.buffer_pool.specs.declared.buffer_pool.Called.{Called}
-use Rattle.buffer_pool.specs.Record.{byteLimit}
+use Rattle.buffer_pool.specs.Record.{cut, byteLimit}
 use Rattle.buffer_pool.specs.Moves.{Memories}
-use Rattle.buffer_pool.specs.Soundness.{sound}
+use Rattle.buffer_pool.specs.Soundness.{isCount, sound}
 use Rattle.buffer_pool.specs.Values.{noHandle, Values, valued, values, refusal}
 use Rattle.buffer_pool.specs.Steps.{reserveStep, commitStep, truncateStep, takeStep, names, releaseStep}
 use Rattle.buffer_pool.specs.declared.buffer_pool.View.{View}
-use Rattle.buffer_pool.specs.Calls.{Outcome, new, reserve, commit, truncate, copiedOut, take as taken, release, written}
-use Rattle.buffer_pool.specs.Rust.{Run, done, with, RustPool}
-use Rattle.buffer_pool.specs.AsRust.{Stands, Unrefused, sliceIn, sliceOf, rustWritten}
+use Rattle.buffer_pool.specs.Calls.{Outcome, newOn, new, reserve, commit, truncate, copiedOut, take as taken, release, written}
+use Rattle.buffer_pool.specs.Rust.{Run, done, with, RustPool, took}
+use Rattle.buffer_pool.specs.AsRust.{Stands, Unrefused, AsRust, replyOf, sliceIn, sliceOf, rustWritten}
 use Rattle.buffer_pool.specs.Vocabulary.{Part, Call, Reserve, Commit, Truncate, Take, Release, Look, call, numberOf, Result}
-use Rattle.buffer_pool.specs.Together.{Action, Make, Write, Seen, Given, Whole, Viewed, Ours, ours, view, number, holdingIn, holding, without, letGo, heldAfter, step, given, shownBy, unlessRefused, accepted, shows, Holder, Theirs, theirs, rustFrame, rustHolding, rustWithout, did, rustCall, rustStep, rustShows, ourStart, rustStart}
+use Rattle.buffer_pool.specs.Together.{Did, Offer, Sliced, Nothing, Action, Make, Write, Seen, Given, Whole, Viewed, Ours, ours, view, number, holdingIn, holding, without, letGo, heldAfter, step, leaves, given, shownBy, unlessRefused, accepted, shows, Holder, Theirs, theirs, rustFrame, rustHolding, rustWithout, did, rustCall, rustStep, rustShows, ourStart, rustStart}
 use Rattle.buffer_pool.proofs.SoundKept.{sound-new, sound-kept, Reserve as ReserveStep, Commit as CommitStep, Truncate as TruncateStep, Take as TakeStep, Release as ReleaseStep}
 use Rattle.buffer_pool.proofs.RustCalls.{written-agrees, new-as-rust, reserve-as-rust, commit-as-rust, truncate-as-rust, take-as-rust, release-as-rust}
 use Rattle.buffer_pool.proofs.RefusedKeeps.{refused-keeps, refused-written}
 use Rattle.buffer_pool.proofs.Answers.{view-number, write-number, call-answers}
-use Rattle.buffer_pool.proofs.Unchanged.{fixed}
+use Rattle.buffer_pool.proofs.Soundness.{sound-use}
+use Rattle.buffer_pool.proofs.Unchanged.{fixed, call-slots}
 use Rattle.buffer_pool.proofs.Named.{Named, names-use}
 use Rattle.buffer_pool.proofs.Handles.{Holds, new-holds, reserve-holds, commit-holds, truncate-holds, take-holds, release-holds}
 use Rattle.buffer_pool.proofs.Joined.{holderOf, Joined, frame-place, joined-orderly, joined-fits, slice-part, part-seen, part-agrees, shown-agrees}
+use Rattle.buffer_pool.proofs.Cut.{orderly-cut, exact-cut, cutOutcome, call-cut}
 
 -- ---- What we give
 
@@ -103,8 +105,8 @@ module _ (w : ℕ) (s : Ours) (t : Theirs) (J : Joined w s t) where
             record {
               sound-is = J .sound-is;
               stands =
-                  subst (λ (v : View). Stands r (written m (v .place) i byte) (rustWritten p (A .at-place) i byte)) (sym (A .view-is))
-                  (written-agrees (joined-orderly w s t J) (J .stands) (A .at-place) i byte (A .kept));
+                  subst (λ (v : View). Stands (cut w r) (written m (v .place) i byte) (rustWritten p (A .at-place) i byte)) (sym (A .view-is))
+                  (written-agrees (orderly-cut w r (joined-orderly w s t J)) (J .stands) (A .at-place) i byte (A .kept));
               held-is = J .held-is;
               holds = J .holds;
             };
@@ -135,7 +137,7 @@ module _ (w : ℕ) (s : Ours) (t : Theirs) (J : Joined w s t) where
 
   -- and leaves the two joined, with these handles held after it
   call-joined : (held : Called → List Handle) {c d : Called} {n : Memories} {q : RustPool} {holders : List Holder} → c ≡ d
-      → sound w (d .pool) ≡ true → Holds w (d .pool) (held d) → Stands (c .pool) n q → holders ≡ map holderOf (held c)
+      → sound w (d .pool) ≡ true → Holds w (d .pool) (held d) → Stands (cut w (c .pool)) n q → holders ≡ map holderOf (held c)
       → Joined w (ours (c .pool) n (held c)) (theirs q holders)
   call-joined held e a b T h =
       record {
@@ -145,13 +147,25 @@ module _ (w : ℕ) (s : Ours) (t : Theirs) (J : Joined w s t) where
         holds = subst (λ (c : Called). Holds w (c .pool) (held c)) (sym e) b;
       }
 
+  -- the Rust's pool has the first w entries of our arrays, and with them the call leaves the same (`call-cut`)
+  beside : {A : Type 0} {run : Run A} (value : Outcome → RustPool → A) (c : Call)
+      → (Unrefused (call w (cut w r) m c) → AsRust run (value (call w (cut w r) m c)) (call w (cut w r) m c))
+      → Unrefused (call w r m c) → AsRust run (value (cutOutcome w (call w r m c))) (cutOutcome w (call w r m c))
+  beside {run = run} value c as-rust u =
+      subst (λ (o : Outcome). AsRust run (value o) o) (call-cut w r m c) (as-rust (subst Unrefused (sym (call-cut w r m c)) u))
+
+  with-done : {A : Type 0} {run : Run A} {a : A} (f : A → Did) → run ≡ done a → with run f ≡ done (f a)
+  with-done f e = rw e refl
+
   reserve-follows : (len : ℕ) → numberOf w r m (Reserve len) ≡ 0 → Follows (Make (Reserve len))
   unfolding numberOf call Result rustStep rustCall step given
   reserve-follows len u =
-      let L = reserve-as-rust w r m p (J .stands) 0 len u in
+      let L =
+      beside (λ o. replyOf (values (o .call .answer))) (Reserve len)
+      (reserve-as-rust w (cut w r) m p (J .stands) (exact-cut w r) 0 len) u in
       record {
         left = theirs (L .left) (t .held);
-        run-is = rw (L .run-is) refl;
+        run-is = with-done (λ a. did (Offer (a .writable) (a .changes)) (a .left) (t .held)) (L .run-is);
         joined =
             call-joined (λ c. s .held) (reserve-call len) (sound-kept w r (ReserveStep len) (J .sound-is))
             (reserve-holds w r (s .held) (J .holds) len) (L .holds) (J .held-is);
@@ -160,13 +174,13 @@ module _ (w : ℕ) (s : Ours) (t : Theirs) (J : Joined w s t) where
   commit-follows : (n : ℕ) → numberOf w r m (Commit n) ≡ 0 → Follows (Make (Commit n))
   unfolding numberOf call Result rustStep rustCall step given
   commit-follows n u =
-      let L = commit-as-rust w r m p (J .stands) n u in
+      let L = beside (λ o q. q) (Commit n) (commit-as-rust w (cut w r) m p (J .stands) n) u in
       record {
         left = theirs (L .left) (t .held);
         run-is =
-            rw (L .run-is)
-            (ap (λ (g : Given). done (did g (L .left) (t .held)))
-            (ap Whole (frame-place _ _ (L .left) (L .holds)) ∙ frame-given (call-answers w r m (Commit n) u)));
+            with-done (λ q. did (Whole (rustFrame q)) q (t .held)) (L .run-is)
+            ∙ ap (λ (g : Given). done (did g (L .left) (t .held)))
+            (ap Whole (frame-place w _ _ (L .left) (L .holds)) ∙ frame-given (call-answers w r m (Commit n) u));
         joined =
             call-joined (λ c. s .held) (commit-call n) (sound-kept w r (CommitStep n) (J .sound-is))
             (commit-holds w r (s .held) (J .holds) n) (L .holds) (J .held-is);
@@ -175,13 +189,13 @@ module _ (w : ℕ) (s : Ours) (t : Theirs) (J : Joined w s t) where
   truncate-follows : (n : ℕ) → numberOf w r m (Truncate n) ≡ 0 → Follows (Make (Truncate n))
   unfolding numberOf call Result rustStep rustCall step given
   truncate-follows n u =
-      let L = truncate-as-rust w r m p (J .stands) n u in
+      let L = beside (λ o q. q) (Truncate n) (truncate-as-rust w (cut w r) m p (J .stands) n) u in
       record {
         left = theirs (L .left) (t .held);
         run-is =
-            ap (λ (run : Run RustPool). with run (λ q. did (Whole (rustFrame q)) q (t .held))) (L .run-is)
+            with-done (λ q. did (Whole (rustFrame q)) q (t .held)) (L .run-is)
             ∙ ap (λ (g : Given). done (did g (L .left) (t .held)))
-            (ap Whole (frame-place _ _ (L .left) (L .holds)) ∙ frame-given (call-answers w r m (Truncate n) u));
+            (ap Whole (frame-place w _ _ (L .left) (L .holds)) ∙ frame-given (call-answers w r m (Truncate n) u));
         joined =
             call-joined (λ c. s .held) (truncate-call n) (sound-kept w r (TruncateStep n) (J .sound-is))
             (truncate-holds w r (s .held) (J .holds) n) (L .holds) (J .held-is);
@@ -192,12 +206,14 @@ module _ (w : ℕ) (s : Ours) (t : Theirs) (J : Joined w s t) where
   unfolding numberOf call Result rustStep rustCall step given
   take-follows caller destination u =
       let o = taken w r m caller destination in
-      let L = take-as-rust w r m p (J .stands) caller destination u in
+      let L =
+      beside (λ o. took (sliceOf (values (o .call .answer)) (o .destination))) (Take caller destination)
+      (take-as-rust w (cut w r) m p (J .stands) caller destination) u in
       let said = values (o .call .answer) in
       let slice = sliceOf said (o .destination) in
       record {
         left = theirs (L .left) (rustHolding slice (t .held));
-        run-is = rw (L .run-is) refl;
+        run-is = with-done (λ a. did (Sliced (a .slice)) (a .left) (rustHolding (a .slice) (t .held))) (L .run-is);
         joined =
             call-joined (λ c. holding (values (c .answer)) (s .held)) (take-call caller destination)
             (sound-kept w r (TakeStep caller (length destination)) (J .sound-is))
@@ -215,12 +231,12 @@ module _ (w : ℕ) (s : Ours) (t : Theirs) (J : Joined w s t) where
   release-follows : (h : Handle) → numberOf w r m (Release h) ≡ 0 → Follows (Make (Release h))
   unfolding numberOf call Result rustStep rustCall step given
   release-follows h u =
-      let L = release-as-rust w r m p (J .stands) h u in
+      let L = beside (λ o q. q) (Release h) (release-as-rust w (cut w r) m p (J .stands) h) u in
       let e = release-call h in
       let N = released-named h (subst (λ (c : Called). refusal (c .answer) ≡ 0) e u) in
       record {
         left = theirs (L .left) (rustWithout (h .slot) (t .held));
-        run-is = rw (slice-part w s t J h N .rust-is, L .run-is) refl;
+        run-is = rw (slice-part w s t J h N .rust-is) (with-done (λ q. did Nothing q (rustWithout (h .slot) (t .held))) (L .run-is));
         joined =
             call-joined (λ c. letGo (refusal (c .answer)) (h .slot) (s .held)) e (sound-kept w r (ReleaseStep h) (J .sound-is))
             (release-holds w r (s .held) (J .holds) h) (L .holds)
@@ -283,26 +299,47 @@ joined-shows w (e ∷ es) s t J = go (number w s e) refl (joined-shows w es)
 abbrev Starts : ℕ → Outcome → Type 0
 Starts w o = Unrefused o → (sound w (o .call .pool) ≡ true) × Holds w (o .call .pool) []
 
-new-starts : (w : ℕ) (m : Memories) → 0 < w → Starts w (new w m)
+new-starts : (w : ℕ) (m : Memories) → Starts w (new w m)
 unfolding new refusal
-new-starts w m l =
-    pick-cases (Starts w) (ltb byteLimit (length (m .pool)) || ltb byteLimit (length (m .overflow))) (λ e u. absurd (omega (arith, u)))
-    (λ e u. let a = either-false (ltb byteLimit (length (m .pool))) _ e in (
-      sound-new w (length (m .pool)) (length (m .overflow)) l (ltb-false byteLimit (length (m .pool)) (a .0))
-          (ltb-false byteLimit (length (m .overflow)) (a .1)),
-      new-holds w (length (m .pool)) (length (m .overflow)),
-    ))
+new-starts w m = go (isCount w) refl (ltb byteLimit (length (m .pool)) || ltb byteLimit (length (m .overflow))) refl
+  where
+    go : (i : Bool) → isCount w ≡ i → (t : Bool) → (ltb byteLimit (length (m .pool)) || ltb byteLimit (length (m .overflow))) ≡ t
+        → Starts w (newOn i t w m)
+    go false e t f u = absurd (omega (arith, u))
+    go true e true f u = absurd (omega (arith, u))
+    go true e false f u =
+        let a = either-false (ltb byteLimit (length (m .pool))) _ f in (
+          sound-new w (length (m .pool)) (length (m .overflow)) e (ltb-false byteLimit (length (m .pool)) (a .0))
+              (ltb-false byteLimit (length (m .overflow)) (a .1)),
+          new-holds w (length (m .pool)) (length (m .overflow)),
+        )
 
-start-joined : (w : ℕ) (m : Memories) → 0 < w → Unrefused (new w m) → Joined w (ourStart w m) (rustStart w m)
-start-joined w m l u =
-    let S = new-starts w m l u in
+start-joined : (w : ℕ) (m : Memories) → Unrefused (new w m) → Joined w (ourStart w m) (rustStart w m)
+start-joined w m u =
+    let S = new-starts w m u in
     record { sound-is = S .0; stands = new-as-rust w m u; held-is = refl; holds = S .1 }
+
+-- ---- The slot count is the record's own, after every action
+
+step-count : (w : ℕ) (s : Ours) (e : Action) → step w s e .pool .slots ≡ s .pool .slots
+unfolding step
+step-count w s (Make c) = call-slots w (s .pool) (s .memory) c
+step-count w s (Write part i byte) = refl
+
+leaves-count : (w : ℕ) (s : Ours) (es : List Action) → leaves w s es .pool .slots ≡ s .pool .slots
+unfolding leaves
+leaves-count w s [] = refl
+leaves-count w s (e ∷ es) = leaves-count w (step w s e) es ∙ step-count w s e
+
+pub sequence-count : (w : ℕ) (m : Memories) (es : List Action) → Unrefused (new w m) → leaves w (ourStart w m) es .pool .slots ≡ w
+sequence-count w m es u =
+    leaves-count w (ourStart w m) es ∙ sound-use w _ (new-starts w m u .0) .orderly .ready .count-is
 
 -- ---- The theorem
 
 -- from a new pool of any capacities within the limit and any bytes in the overflow, whatever is called and written: the Rust, given
 -- the actions that we do not refuse, does not panic, and shows at each of them what we show
-pub as-the-rust : (w : ℕ) (m : Memories) (es : List Action) → 0 < w → Unrefused (new w m)
+pub as-the-rust : (w : ℕ) (m : Memories) (es : List Action) → Unrefused (new w m)
     → rustShows w (rustStart w m) (accepted w (ourStart w m) es) ≡ done (shows w (ourStart w m) es)
 unfolding Shows
-as-the-rust w m es l u = joined-shows w es (ourStart w m) (rustStart w m) (start-joined w m l u)
+as-the-rust w m es u = joined-shows w es (ourStart w m) (rustStart w m) (start-joined w m u)

@@ -1,9 +1,10 @@
 -- The cases of SPECIFICATION 11, by computation: each line of the table shows what the SPECIFICATION says of it, on the definitions
--- and on the Rust's; of callers, which the Rust does not have, on the definitions. Assumes nothing.
+-- and on the Rust's; of callers and slot counts, which the Rust does not have, on the definitions. Assumes nothing.
 use mathlib.Core.Path.{_≡_, refl}
 use mathlib.Core.List.{[], _∷_, _++_, map}
+use Prim.Native.Nat.{ℕ}
 use Rattle.buffer_pool.specs.Vocabulary.{call}
-use Rattle.buffer_pool.specs.CallerCases.{callerTable, answersOn, answered, expected}
+use Rattle.buffer_pool.specs.AnswerCases.{callerTable, otherCounts, createdWith, refusedOfEight, slotTable, answersOn, answered, expected}
 use Rattle.buffer_pool.specs.Computing.{definitions, rustDefinitions}
 use Rattle.buffer_pool.specs.Cases.{MoveCase, octet, octetInFront, table, twice, moveTable, playTo, movesBy, rustPlayTo, rustMovesBy, observed, letter, play, see, playAll, shownBy, wanted, rustOffer, watched, rustFrame, rustWritePool, rustWrite, reserved′, committed, taken, released, rustPlay, rustPlayAll, rustShownBy}
 
@@ -28,3 +29,13 @@ rust-move-cases = refl
 pub caller-cases : map answered callerTable ≡ map expected callerTable
 unfolding definitions call callerTable answersOn answered expected
 caller-cases = refl
+
+-- 11.38
+pub count-cases : map createdWith otherCounts ≡ map (λ (w : ℕ). refusedOfEight) otherCounts
+unfolding definitions otherCounts createdWith
+count-cases = refl
+
+-- 11.32 to 11.37, 11.39 to 11.41
+pub slot-cases : map answered slotTable ≡ map expected slotTable
+unfolding definitions call slotTable answersOn answered expected
+slot-cases = refl

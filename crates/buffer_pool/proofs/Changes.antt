@@ -13,7 +13,7 @@ use Rattle.buffer_pool.proofs.Unchanged.{decided}
 pub changes-at-most : (w : ℕ) (r : BufferPool) (len : ℕ) → place w r len .changes ≤ mostChanges
 unfolding place
 changes-at-most w r len =
-    decided w len (λ k x q n. n ≤ k) stop (λ k x q n h. omega arith) mostChanges false (reset w r .mode) (reset w r)
+    decided w len (λ k x q n. n ≤ k) stop (λ k x q n h. omega arith) mostChanges false (reset r .mode) (reset r)
   where
     stop : (k : ℕ) (mode : PoolMode) (q : BufferPool) → finish mode q [] len .changes ≤ k
     stop k Back q = omega arith

@@ -24,67 +24,69 @@ use Rattle.buffer_pool.specs.Moves.{Move}
 use Rattle.buffer_pool.specs.MoveList.{byteMove, moveOf, listed}
 use Rattle.buffer_pool.specs.Placing.{Decision, Layer, stay, change, finish, first, resolveOn, toAlloc, clearable, tailFits, tailCleared, headFits, headCleared, stays, backOn, frontCleared, leaveOn, frontOn, allocOn, placeOf, backLayer, frontLayer, allocLayer, layer, isAlloc, tooLong}
 use Rattle.buffer_pool.specs.Deciding.{frontLen, Placeable, Decides, clearedOn, layerOf, ahead, decisionOf, finished, following}
+use Rattle.buffer_pool.specs.Sound.{InMode}
 use Rattle.buffer_pool.proofs.Order.{last-held}
+use Rattle.buffer_pool.proofs.Parts.{ready-worded}
 use Rattle.buffer_pool.proofs.BackLaws.{clearable-is-full}
 use Rattle.buffer_pool.proofs.LayerLaws.{cleared-true, cleared-false}
-use Rattle.buffer_pool.proofs.ReserveKept.{stays-not}
+use Rattle.buffer_pool.proofs.ReserveKept.{Fit, stays-not}
 
 -- ---- A frame in the overflow
 
 module _ (p : BufferPool) (entered : Bool) where
-  pub stays-entered : entered ≡ true → true ≡ stays 8 entered p
+  pub stays-entered : entered ≡ true → true ≡ stays (p .slots) entered p
   unfolding stays
   stays-entered e = rw e
 
   module _ (n : entered ≡ false) where
-    pub stays-with-frame : 0 < p .cursor → true ≡ stays 8 entered p
+    pub stays-with-frame : 0 < p .cursor → true ≡ stays (p .slots) entered p
     unfolding stays
     stays-with-frame h = rw (n, lt-ltb 0 (p .cursor) h)
 
     module _ (z : p .cursor ≤ 0) where
-      pub stays-without-back : p .«back_len» ≡ 0 → true ≡ stays 8 entered p
+      pub stays-without-back : p .«back_len» ≡ 0 → true ≡ stays (p .slots) entered p
       unfolding stays
       stays-without-back h = rw (n, le-ltb 0 (p .cursor) z, eq-eqb (p .«back_len») 0 h)
 
-      pub stays-by-tail : (p .«back_len» ≡ 0 → ⊥) → (c : Bool) → c ≡ clearable 8 p → not c ≡ stays 8 entered p
+      pub stays-by-tail : (p .«back_len» ≡ 0 → ⊥) → (c : Bool) → c ≡ clearable (p .slots) p → not c ≡ stays (p .slots) entered p
       unfolding stays
       stays-by-tail h c g = rw (n, le-ltb 0 (p .cursor) z, ne-eqb (p .«back_len») 0 h, g)
 
-module _ (p : BufferPool) (entered : Bool) (b : Bool) (e : b ≡ stays 8 entered p) where
-  pub gives-way-clearable : b ≡ false → clearable 8 p ≡ true
-  gives-way-clearable n = stays-not 8 p entered (sym e ∙ n) .1
+module _ (p : BufferPool) (entered : Bool) (b : Bool) (e : b ≡ stays (p .slots) entered p) where
+  pub gives-way-clearable : b ≡ false → clearable (p .slots) p ≡ true
+  gives-way-clearable n = stays-not (p .slots) p entered (sym e ∙ n) .1
 
-  pub gives-way-full : b ≡ false → p .«back_start» + p .«back_len» ≡ 8
+  pub gives-way-full : b ≡ false → p .«back_start» + p .«back_len» ≡ p .slots
   gives-way-full n = clearable-is-full p (gives-way-clearable n)
 
   module _ (moves : Moves) (len : ℕ) (m : ModeStep) where
-    pub alloc-keeps : p .mode ≡ Alloc → b ≡ true → layerOf m ≡ stay (p .mode) p (listed moves) → layerOf m ≡ ahead (listed moves) (allocLayer 8 entered p len)
+    pub alloc-keeps : p .mode ≡ Alloc → b ≡ true → layerOf m ≡ stay (p .mode) p (listed moves) → layerOf m ≡ ahead (listed moves) (allocLayer (p .slots) entered p len)
     unfolding allocLayer allocOn ahead
     alloc-keeps h t f = f ∙ rw (← e, t, h, append-nil (listed moves))
 
-    module _ (n : b ≡ false) (t : Cleared) (i : t ≡ clearedOn (tailFits 8 p len) (tailCleared 8 p) p) where
-      pub alloc-clears-tail : t .cleared ≡ true → layerOf m ≡ change false (t .pool) (listed moves) → layerOf m ≡ ahead (listed moves) (allocLayer 8 entered p len)
+    module _ (n : b ≡ false) (t : Cleared) (i : t ≡ clearedOn (tailFits (p .slots) p len) (tailCleared (p .slots) p) p) where
+      pub alloc-clears-tail : t .cleared ≡ true → layerOf m ≡ change false (t .pool) (listed moves) → layerOf m ≡ ahead (listed moves) (allocLayer (p .slots) entered p len)
       unfolding allocLayer allocOn ahead
       alloc-clears-tail k f =
-          let x = cleared-true (tailFits 8 p len) (tailCleared 8 p) p t i k in f ∙ rw (x .1, ← e, n, x .0, append-nil (listed moves))
+          let x = cleared-true (tailFits (p .slots) p len) (tailCleared (p .slots) p) p t i k in f ∙ rw (x .1, ← e, n, x .0, append-nil (listed moves))
 
-      module _ (j : t .cleared ≡ false) (u : Cleared) (v : u ≡ clearedOn (headFits 8 p) (headCleared 8 p) p) where
-        no-tail : tailFits 8 p len ≡ false
-        no-tail = cleared-false (tailFits 8 p len) (tailCleared 8 p) p t i j
+      module _ (j : t .cleared ≡ false) (u : Cleared) (v : u ≡ clearedOn (headFits (p .slots) p) (headCleared (p .slots) p) p) where
+        no-tail : tailFits (p .slots) p len ≡ false
+        no-tail = cleared-false (tailFits (p .slots) p len) (tailCleared (p .slots) p) p t i j
 
-        pub alloc-clears-head : u .cleared ≡ true → layerOf m ≡ change false (u .pool) (listed moves) → layerOf m ≡ ahead (listed moves) (allocLayer 8 entered p len)
+        pub alloc-clears-head : u .cleared ≡ true → layerOf m ≡ change false (u .pool) (listed moves) → layerOf m ≡ ahead (listed moves) (allocLayer (p .slots) entered p len)
         unfolding allocLayer allocOn ahead
         alloc-clears-head k f =
-            let x = cleared-true (headFits 8 p) (headCleared 8 p) p u v k in f ∙ rw (x .1, ← e, n, no-tail, x .0, append-nil (listed moves))
+            let x = cleared-true (headFits (p .slots) p) (headCleared (p .slots) p) p u v k in f ∙ rw (x .1, ← e, n, no-tail, x .0, append-nil (listed moves))
 
-        pub alloc-stays : p .mode ≡ Alloc → u .cleared ≡ false → layerOf m ≡ stay (p .mode) p (listed moves) → layerOf m ≡ ahead (listed moves) (allocLayer 8 entered p len)
+        pub alloc-stays : p .mode ≡ Alloc → u .cleared ≡ false → layerOf m ≡ stay (p .mode) p (listed moves) → layerOf m ≡ ahead (listed moves) (allocLayer (p .slots) entered p len)
         unfolding allocLayer allocOn ahead
         alloc-stays h k f =
-            f ∙ rw (← e, n, no-tail, cleared-false (headFits 8 p) (headCleared 8 p) p u v k, h, append-nil (listed moves))
+            f ∙ rw (← e, n, no-tail, cleared-false (headFits (p .slots) p) (headCleared (p .slots) p) p u v k, h, append-nil (listed moves))
 
 -- ---- One call of `reserve_`, by the mode
 
-module _ (p : BufferPool) (P : Placeable 8 p) where
+module _ (p : BufferPool) (P : Placeable (p .slots) p) where
   pub back-cursor : p .mode ≡ Back → p .cursor ≡ 0
   back-cursor h = P .no-cursor (rw h)
 
@@ -92,21 +94,21 @@ module _ (p : BufferPool) (P : Placeable 8 p) where
     pub front-cursor : p .mode ≡ Front f → p .cursor ≡ 0
     front-cursor h = P .no-cursor (rw h)
 
-    pub front-slots : p .mode ≡ Front f → f .len ≤ 8
+    pub front-slots : p .mode ≡ Front f → f .len ≤ p .slots
     front-slots h = rw h at (P .front-within)
 
 module _ (p : BufferPool) (entered : Bool) (moves : List Move) (len : ℕ) (l : Layer) where
-  pub layer-back : p .mode ≡ Back → l ≡ ahead moves (backLayer 8 p len) → l ≡ ahead moves (layer 8 entered (p .mode) p len)
+  pub layer-back : p .mode ≡ Back → l ≡ ahead moves (backLayer (p .slots) p len) → l ≡ ahead moves (layer (p .slots) entered (p .mode) p len)
   unfolding layer
-  layer-back h e = e ∙ ap (λ (mode : PoolMode). ahead moves (layer 8 entered mode p len)) (sym h)
+  layer-back h e = e ∙ ap (λ (mode : PoolMode). ahead moves (layer (p .slots) entered mode p len)) (sym h)
 
-  pub layer-front : (f : PoolFront) → p .mode ≡ Front f → l ≡ ahead moves (frontLayer 8 f p len) → l ≡ ahead moves (layer 8 entered (p .mode) p len)
+  pub layer-front : (f : PoolFront) → p .mode ≡ Front f → l ≡ ahead moves (frontLayer (p .slots) f p len) → l ≡ ahead moves (layer (p .slots) entered (p .mode) p len)
   unfolding layer
-  layer-front f h e = e ∙ ap (λ (mode : PoolMode). ahead moves (layer 8 entered mode p len)) (sym h)
+  layer-front f h e = e ∙ ap (λ (mode : PoolMode). ahead moves (layer (p .slots) entered mode p len)) (sym h)
 
-  pub layer-alloc : p .mode ≡ Alloc → l ≡ ahead moves (allocLayer 8 entered p len) → l ≡ ahead moves (layer 8 entered (p .mode) p len)
+  pub layer-alloc : p .mode ≡ Alloc → l ≡ ahead moves (allocLayer (p .slots) entered p len) → l ≡ ahead moves (layer (p .slots) entered (p .mode) p len)
   unfolding layer
-  layer-alloc h e = e ∙ ap (λ (mode : PoolMode). ahead moves (layer 8 entered mode p len)) (sym h)
+  layer-alloc h e = e ∙ ap (λ (mode : PoolMode). ahead moves (layer (p .slots) entered mode p len)) (sym h)
 
 -- ---- The reservation
 
@@ -182,26 +184,35 @@ module _ (p : BufferPool) (moves : Moves) (changes len : ℕ) (a : p .mode ≡ A
 -- ---- The recursion
 
 -- every record on the way is placeable again
-module _ (p : BufferPool) (P : Placeable 8 p) where
-  clear-empty : (q : BufferPool) → q .«back_start» + q .«back_len» ≤ 8 → frontLen (q .mode) ≤ 8 → q .cursor ≡ p .cursor → p .cursor ≡ 0 → Placeable 8 q
-  clear-empty q b f c z = record { back-within = b; front-within = f; no-cursor = λ _. c ∙ z }
+module _ (w : ℕ) (p : BufferPool) (P : Placeable w p) where
+  pub placeable-as : (q : BufferPool) → q .slots ≡ p .slots → q .live ≡ p .live → q .«back_start» + q .«back_len» ≤ w → frontLen (q .mode) ≤ w
+      → (isAlloc (q .mode) ≡ false → q .cursor ≡ 0) → Placeable w q
+  placeable-as q s l b f c =
+      record {
+        count-is = s ∙ P .count-is;
+        worded = record { most = rw s (P .worded .most); word = rw (s, l) (P .worded .word) };
+        back-within = b;
+        front-within = f;
+        no-cursor = c;
+      }
 
-  out-placeable : Placeable 8 (toAlloc p)
-  out-placeable = record { back-within = P .back-within; front-within = omega arith; no-cursor = λ e. absurd (no-true (sym e)) }
+  out-placeable : Placeable w (toAlloc p)
+  out-placeable = placeable-as (toAlloc p) refl refl (P .back-within) (omega arith) (λ e. absurd (no-true (sym e)))
 
-  tail-placeable : p .cursor ≡ 0 → Placeable 8 (tailCleared 8 p)
-  tail-placeable z = clear-empty (tailCleared 8 p) (omega (arith, P .back-within)) (omega arith) refl z
+  tail-placeable : p .cursor ≡ 0 → Placeable w (tailCleared w p)
+  tail-placeable z = placeable-as (tailCleared w p) refl refl (omega (arith, P .back-within)) (omega arith) (λ _. z)
 
-  head-placeable : p .cursor ≡ 0 → Placeable 8 (headCleared 8 p)
-  head-placeable z = clear-empty (headCleared 8 p) (omega (arith, P .back-within, leading-le 8 (p .live))) (omega arith) refl z
+  head-placeable : p .cursor ≡ 0 → Placeable w (headCleared w p)
+  head-placeable z =
+      placeable-as (headCleared w p) refl refl (omega (arith, P .back-within, leading-le w (p .live))) (omega arith) (λ _. z)
 
-  leave-placeable : (c t : Bool) (moves : List Move) → p .cursor ≡ 0 → Placeable 8 (leaveOn c t 8 p moves .pool)
+  leave-placeable : (c t : Bool) (moves : List Move) → p .cursor ≡ 0 → Placeable w (leaveOn c t w p moves .pool)
   unfolding leaveOn
   leave-placeable true true moves z = tail-placeable z
   leave-placeable true false moves z = out-placeable
   leave-placeable false t moves z = out-placeable
 
-  back-placeable : (a c t h : Bool) → p .cursor ≡ 0 → Placeable 8 (backOn a c t h 8 p .pool)
+  back-placeable : (a c t h : Bool) → p .cursor ≡ 0 → Placeable w (backOn a c t h w p .pool)
   unfolding backOn
   back-placeable true c t h z = P
   back-placeable false false t h z = out-placeable
@@ -209,31 +220,57 @@ module _ (p : BufferPool) (P : Placeable 8 p) where
   back-placeable false true false true z = head-placeable z
   back-placeable false true false false z = out-placeable
 
-  alloc-placeable : (entered a t h : Bool) → stays 8 entered p ≡ a → Placeable 8 (allocOn a t h 8 p .pool)
+  alloc-placeable : (entered a t h : Bool) → stays w entered p ≡ a → Placeable w (allocOn a t h w p .pool)
   unfolding allocOn
   alloc-placeable entered true t h e = P
-  alloc-placeable entered false true h e = tail-placeable (stays-not 8 p entered e .0)
-  alloc-placeable entered false false true e = head-placeable (stays-not 8 p entered e .0)
+  alloc-placeable entered false true h e = tail-placeable (stays-not w p entered e .0)
+  alloc-placeable entered false false true e = head-placeable (stays-not w p entered e .0)
   alloc-placeable entered false false false e = P
 
-front-placeable : (p : BufferPool) → Placeable 8 p → (f : PoolFront) (len : ℕ) (a d g : Bool) → f .len ≤ 8 → p .cursor ≡ 0 → Placeable 8 (frontOn a d g 8 p f len .pool)
+front-placeable : (w : ℕ) (p : BufferPool) → Placeable w p → (f : PoolFront) (len : ℕ) (a d g : Bool) → f .len ≤ w → p .cursor ≡ 0
+    → Placeable w (frontOn a d g w p f len .pool)
 unfolding frontOn
-front-placeable p P f len a d g h z = go a d g
+front-placeable w p P f len a d g h z = go a d g
   where
-    cleared : Placeable 8 (frontCleared 8 p f)
-    cleared = record { back-within = P .back-within; front-within = omega (arith, last-held 8 (p .live) (f .len) h .within); no-cursor = λ _. z }
+    cleared : Placeable w (frontCleared w p f)
+    cleared =
+        placeable-as w p P (frontCleared w p f) refl refl (P .back-within) (omega (arith, last-held w (p .live) (f .len) h .within)) (λ _. z)
 
-    go : (a d g : Bool) → Placeable 8 (frontOn a d g 8 p f len .pool)
+    go : (a d g : Bool) → Placeable w (frontOn a d g w p f len .pool)
     go true d g = P
     go false true true = cleared
-    go false true false = leave-placeable (frontCleared 8 p f) cleared (clearable 8 (frontCleared 8 p f)) (tailFits 8 (frontCleared 8 p f) len) _ z
-    go false false g = leave-placeable p P (clearable 8 p) (tailFits 8 p len) [] z
+    go false true false =
+        leave-placeable w (frontCleared w p f) cleared (clearable w (frontCleared w p f)) (tailFits w (frontCleared w p f) len) _ z
+    go false false g = leave-placeable w p P (clearable w p) (tailFits w p len) [] z
 
-layer-placeable : (p : BufferPool) → Placeable 8 p → (entered : Bool) (len : ℕ) (mode : PoolMode) → p .mode ≡ mode → Placeable 8 (layer 8 entered mode p len .pool)
+pub layer-placeable : (w : ℕ) (p : BufferPool) → Placeable w p → (entered : Bool) (len : ℕ) (mode : PoolMode) → p .mode ≡ mode
+    → Placeable w (layer w entered mode p len .pool)
 unfolding layer backLayer frontLayer allocLayer
-layer-placeable p P entered len Back h = back-placeable p P _ _ _ _ (back-cursor p P h)
-layer-placeable p P entered len (Front f) h = front-placeable p P f len _ _ _ (front-slots p P f h) (front-cursor p P f h)
-layer-placeable p P entered len Alloc h = alloc-placeable p P entered (stays 8 entered p) _ _ refl
+layer-placeable w p P entered len Back h = back-placeable w p P _ _ _ _ (P .no-cursor (rw h))
+layer-placeable w p P entered len (Front f) h = front-placeable w p P f len _ _ _ (rw h at (P .front-within)) (P .no-cursor (rw h))
+layer-placeable w p P entered len Alloc h = alloc-placeable w p P entered (stays w entered p) _ _ refl
+
+-- every record that fits is placeable
+pub fit-placeable : (w : ℕ) (r : BufferPool) → Fit w r → Placeable w r
+fit-placeable w r T =
+    let R = T .0 in
+    record {
+      count-is = R .count-is;
+      worded = ready-worded w r R;
+      back-within = R .back-within;
+      front-within = slots (r .mode) (T .1);
+      no-cursor = cursor (r .mode) (T .1);
+    }
+  where
+    slots : (mode : PoolMode) → InMode w mode r 0 → frontLen mode ≤ w
+    slots Back I = omega arith
+    slots (Front f) I = omega (arith, I .len-within, I .front-within, T .0 .start-below)
+    slots Alloc I = omega arith
+
+    cursor : (mode : PoolMode) → InMode w mode r 0 → isAlloc mode ≡ false → r .cursor ≡ 0
+    cursor Back I e = I .no-cursor
+    cursor (Front f) I e = I .no-cursor
+    cursor Alloc I e = absurd (no-true (sym e))
 
 -- the reservation after moves
 finish-moves : (mode : PoolMode) (r : BufferPool) (moves : List Move) (len : ℕ) → finish mode r moves len ≡ first moves (finish mode r [] len)
@@ -242,10 +279,18 @@ finish-moves (Front f) r moves len = rw (append-nil moves)
 finish-moves Alloc r moves len = refl
 
 pub step-placeable : (p : BufferPool) (entered : Bool) (moves : Moves) (len : ℕ) (s : ModeStep)
-    → layerOf s ≡ ahead (listed moves) (layer 8 entered (p .mode) p len) → Placeable 8 p → Placeable 8 (s .pool)
+    → layerOf s ≡ ahead (listed moves) (layer (p .slots) entered (p .mode) p len) → Placeable (p .slots) p → Placeable (s .pool .slots) (s .pool)
 unfolding layerOf ahead
 step-placeable p entered moves len s e P =
-    subst (Placeable 8) (sym (ap (λ (l : Layer). l .pool) e)) (layer-placeable p P entered len (p .mode) refl)
+    let Q : Placeable (p .slots) (s .pool) =
+    subst (Placeable (p .slots)) (sym (ap (λ (l : Layer). l .pool) e)) (layer-placeable (p .slots) p P entered len (p .mode) refl) in
+    subst (λ (w : ℕ). Placeable w (s .pool)) (sym (Q .count-is)) Q
+
+-- a step keeps the count
+step-slots : (p : BufferPool) (entered : Bool) (moves : Moves) (len : ℕ) (s : ModeStep)
+    → layerOf s ≡ ahead (listed moves) (layer (p .slots) entered (p .mode) p len) → Placeable (p .slots) p → s .pool .slots ≡ p .slots
+unfolding layerOf ahead
+step-slots p entered moves len s e P = ap (λ (l : Layer). l .pool .slots) e ∙ layer-placeable (p .slots) p P entered len (p .mode) refl .count-is
 
 following-first : (before moves : List Move) (changes : ℕ) (d : Decision) → following (before ++ moves) changes d ≡ following before changes (first moves d)
 unfolding following
@@ -253,14 +298,14 @@ following-first before moves changes d = rw append-assoc
 
 module _ (p : BufferPool) (entered : Bool) (moves : Moves) (changes left len : ℕ) (c : Decided) where
   pub no-change-left : left ≡ 0 → Decides c (following (listed moves) changes (finished p len)) len
-      → Decides c (following (listed moves) changes (placeOf 8 left entered (p .mode) p len)) len
+      → Decides c (following (listed moves) changes (placeOf (p .slots) left entered (p .mode) p len)) len
   unfolding placeOf finished
   no-change-left z D = rw z D
 
-  module _ (n : left ≡ 0 → ⊥) (s : ModeStep) (e : layerOf s ≡ ahead (listed moves) (layer 8 entered (p .mode) p len)) where
+  module _ (n : left ≡ 0 → ⊥) (s : ModeStep) (e : layerOf s ≡ ahead (listed moves) (layer (p .slots) entered (p .mode) p len)) where
     -- the layer's parts, as the code's step has them
     abbrev l : Layer
-    l = layer 8 entered (p .mode) p len
+    l = layer (p .slots) entered (p .mode) p len
 
     moves-is : listed (s .moves) ≡ listed moves ++ l .moves
     unfolding layerOf ahead
@@ -284,31 +329,36 @@ module _ (p : BufferPool) (entered : Bool) (moves : Moves) (changes left len : �
 
     -- one layer of the definition
     unfolds : (again : Bool) → l .again ≡ again → (k : ℕ) → left ≡ suc k
-        → placeOf 8 left entered (p .mode) p len ≡ resolveOn (λ e q. placeOf 8 k e (q .mode) q len) again l len
+        → placeOf (p .slots) left entered (p .mode) p len ≡ resolveOn (λ e q. placeOf (p .slots) k e (q .mode) q len) again l len
     unfolding placeOf
     unfolds again t k z = rw (z, t)
 
     follows : (k : ℕ) → left ≡ suc k → s .again ≡ true
-        → following (listed (s .moves)) (changes + 1) (placeOf 8 (left - 1) (s .entered) (s .pool .mode) (s .pool) len)
-        ≡ following (listed moves) changes (placeOf 8 left entered (p .mode) p len)
+        → following (listed (s .moves)) (changes + 1) (placeOf (p .slots) (left - 1) (s .entered) (s .pool .mode) (s .pool) len)
+        ≡ following (listed moves) changes (placeOf (p .slots) left entered (p .mode) p len)
     unfolding following
     follows k z t =
-        let d : Decision = placeOf 8 k (l .entered) (l .pool .mode) (l .pool) len in
+        let d : Decision = placeOf (p .slots) k (l .entered) (l .pool .mode) (l .pool) len in
         let i : changes + 1 + d .changes ≡ changes + suc (d .changes) = omega arith in
         let j : left - 1 ≡ k = omega arith in
         rw (unfolds true (sym again-is ∙ t) k z, j, moves-is, entered-is, pool-is, i, append-assoc (listed moves) (l .moves) (d .moves))
 
-    pub places-again : s .again ≡ true
-        → Decides c (following (listed (s .moves)) (changes + 1) (placeOf 8 (left - 1) (s .entered) (s .pool .mode) (s .pool) len)) len
-        → Decides c (following (listed moves) changes (placeOf 8 left entered (p .mode) p len)) len
-    places-again t D = go left refl
+    pub places-again : Placeable (p .slots) p → s .again ≡ true
+        → Decides c (following (listed (s .moves)) (changes + 1) (placeOf (s .pool .slots) (left - 1) (s .entered) (s .pool .mode) (s .pool) len)) len
+        → Decides c (following (listed moves) changes (placeOf (p .slots) left entered (p .mode) p len)) len
+    places-again P t D = go left refl
       where
-        go : (k : ℕ) → left ≡ k → Decides c (following (listed moves) changes (placeOf 8 left entered (p .mode) p len)) len
+        go : (k : ℕ) → left ≡ k → Decides c (following (listed moves) changes (placeOf (p .slots) left entered (p .mode) p len)) len
         go zero z = absurd (n z)
-        go (suc k) z = subst (λ (d : Decision). Decides c d len) (follows k z t) D
+        go (suc k) z =
+            subst (λ (d : Decision). Decides c d len)
+            (ap (λ (w : ℕ). following (listed (s .moves)) (changes + 1) (placeOf w (left - 1) (s .entered) (s .pool .mode) (s .pool) len))
+            (step-slots p entered moves len s e P)
+            ∙ follows k z t)
+            D
 
     stops : (k : ℕ) → left ≡ suc k → s .again ≡ false
-        → following (listed (s .moves)) changes (finished (s .pool) len) ≡ following (listed moves) changes (placeOf 8 left entered (p .mode) p len)
+        → following (listed (s .moves)) changes (finished (s .pool) len) ≡ following (listed moves) changes (placeOf (p .slots) left entered (p .mode) p len)
     unfolding finished
     stops k z t =
         ap (λ (x : List Move). following x changes (finish (s .pool .mode) (s .pool) [] len)) moves-is
@@ -318,9 +368,9 @@ module _ (p : BufferPool) (entered : Bool) (moves : Moves) (changes left len : �
         ∙ ap (following (listed moves) changes) (sym (finish-moves (l .mode) (l .pool) (l .moves) len) ∙ sym (unfolds false (sym again-is ∙ t) k z))
 
     pub places-here : s .again ≡ false → Decides c (following (listed (s .moves)) changes (finished (s .pool) len)) len
-        → Decides c (following (listed moves) changes (placeOf 8 left entered (p .mode) p len)) len
+        → Decides c (following (listed moves) changes (placeOf (p .slots) left entered (p .mode) p len)) len
     places-here t D = go left refl
       where
-        go : (k : ℕ) → left ≡ k → Decides c (following (listed moves) changes (placeOf 8 left entered (p .mode) p len)) len
+        go : (k : ℕ) → left ≡ k → Decides c (following (listed moves) changes (placeOf (p .slots) left entered (p .mode) p len)) len
         go zero z = absurd (n z)
         go (suc k) z = subst (λ (d : Decision). Decides c d len) (stops k z t) D

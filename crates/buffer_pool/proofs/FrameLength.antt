@@ -81,12 +81,12 @@ module _ (w len n : ℕ) where
   placed-leaves (suc k) entered Alloc r L =
       alloc-leaves _ (λ e q M. placed-leaves k e (q .mode) q M) entered (stays w entered r) _ _ r refl L
 
-  reset-lies : (r : BufferPool) → Lies n (r .mode) r → Lies n (reset w r .mode) (reset w r)
+  reset-lies : (r : BufferPool) → Lies n (r .mode) r → Lies n (reset r .mode) (reset r)
   unfolding reset resetOn
   reset-lies r L = go (resets r) (ltb (r .cursor) (r .capacity)) (eqb (r .cursor) 0) refl (r .mode) L
     where
       go : (a t z : Bool) → eqb (r .cursor) 0 ≡ z → (mode : PoolMode) → Lies n mode r
-          → Lies n (resetOn a t z mode w r .mode) (resetOn a t z mode w r)
+          → Lies n (resetOn a t z mode r .mode) (resetOn a t z mode r)
       go false t z e mode M = L
       go true t z e Back M = M
       go true t z e (Front f) M = M
@@ -105,5 +105,5 @@ orderly-lies w r O = go (r .mode) (O .in-mode)
 pub place-leaves : (w : ℕ) (r : BufferPool) (len : ℕ) → Orderly w r → Leaves (frame r .length) (place w r len)
 unfolding place
 place-leaves w r len O =
-    placed-leaves w len (frame r .length) mostChanges false (reset w r .mode) (reset w r)
+    placed-leaves w len (frame r .length) mostChanges false (reset r .mode) (reset r)
     (reset-lies w len (frame r .length) r (orderly-lies w r O))

@@ -20,7 +20,7 @@ use Rattle.buffer_pool.specs.declared.buffer_pool.PoolMode.the-variants.
 use Rattle.buffer_pool.specs.declared.buffer_pool.Memory.{Memory}
 use Rattle.buffer_pool.specs.declared.buffer_pool.Memory.the-variants.{Pool, Overflow}
 use Rattle.buffer_pool.specs.declared.buffer_pool.Place.{Place}
-use Rattle.buffer_pool.specs.Record.{startAt}
+use Rattle.buffer_pool.specs.Record.{cut, startAt}
 use Rattle.buffer_pool.specs.Moves.{Memories}
 use Rattle.buffer_pool.specs.Sound.{InMode, Orderly}
 use Rattle.buffer_pool.specs.Soundness.{sound}
@@ -36,6 +36,7 @@ use Rattle.buffer_pool.proofs.RustCalls.{InKept, frame-agrees}
 use Rattle.buffer_pool.proofs.Handles.{Has, Holds}
 use Rattle.buffer_pool.proofs.Named.{Named, names-use, names-make}
 use Rattle.buffer_pool.proofs.Unchanged.{fixed}
+use Rattle.buffer_pool.proofs.Cut.{orderly-cut, frame-cut}
 
 -- ---- Joined pools
 
@@ -44,7 +45,7 @@ holderOf h = holder (h .slot) (at Pool (h .start) (h .length))
 
 pub record Joined (w : ℕ) (s : Ours) (t : Theirs) : Type 0 where
   pub sound-is : sound w (s .pool) ≡ true
-  pub stands : Stands (s .pool) (s .memory) (t .pool)
+  pub stands : Stands (cut w (s .pool)) (s .memory) (t .pool)
   pub held-is : t .held ≡ map holderOf (s .held)
   pub holds : Holds w (s .pool) (s .held)
 
@@ -59,11 +60,11 @@ shown-alike g {mode} {mode′} {live} {live′} {f} {f′} {o} {o′} {l} {l′}
     ∙ ap (λ (x : List Seen). showing g mode′ live′ f′ o′ x) e
 
 -- where the Rust's frame and reservation lie
-module _ (r : BufferPool) (m : Memories) (p : RustPool) (T : Stands r m p) where
+module _ (w : ℕ) (r : BufferPool) (m : Memories) (p : RustPool) (T : Stands (cut w r) m p) where
   pub frame-place : rustFrame p ≡ frame r
   frame-place = rw (T .mirrors .is) (go (r .mode))
     where
-      go : (mode : PoolMode) → rustFrameIn mode (rustOf r (heapOf r m) (T .mirrors .own)) ≡ frameOf mode r
+      go : (mode : PoolMode) → rustFrameIn mode (rustOf (cut w r) (heapOf r m) (T .mirrors .own)) ≡ frameOf mode r
       go Back = refl
       go (Front f) = refl
       go Alloc = refl
@@ -127,7 +128,7 @@ module _ (w : ℕ) (s : Ours) (t : Theirs) (J : Joined w s t) where
   seen-agrees place k = rw (J .stands .mirrors .is) (go (place .memory) k)
     where
       go : (memory : Memory) → InKept memory (place .start + place .length) (r .kept)
-          → seen place (part (rustMemory memory (rustOf r (heapOf r m) (J .stands .mirrors .own))) (place .start) (place .length))
+          → seen place (part (rustMemory memory (rustOf (cut w r) (heapOf r m) (J .stands .mirrors .own))) (place .start) (place .length))
           ≡ seen place (part (memoryAt memory m) (place .start) (place .length))
       go Pool k = refl
       go Overflow k = ap (seen place) (part-take (r .kept) (m .overflow) (place .start) (place .length) k)
@@ -145,7 +146,7 @@ module _ (w : ℕ) (s : Ours) (t : Theirs) (J : Joined w s t) where
 
   frame-part : Agrees TheFrame
   frame-part =
-      record { at-place = frame r; view-is = frame-view; rust-is = ap done (frame-place r m p (J .stands)); kept = frame-kept w r joined-orderly }
+      record { at-place = frame r; view-is = frame-view; rust-is = ap done (frame-place w r m p (J .stands)); kept = frame-kept w r joined-orderly }
 
   reservation-view : view w s TheReservation ≡ shown (reservation r)
   unfolding viewOf reservationView
@@ -156,7 +157,7 @@ module _ (w : ℕ) (s : Ours) (t : Theirs) (J : Joined w s t) where
       record {
         at-place = reservation r;
         view-is = reservation-view;
-        rust-is = ap done (reservation-place r m p (J .stands));
+        rust-is = ap done (reservation-place w r m p (J .stands));
         kept = reservation-kept w r joined-orderly;
       }
 
@@ -220,11 +221,11 @@ module _ (w : ℕ) (s : Ours) (t : Theirs) (J : Joined w s t) where
   shown-agrees g =
       let T = J .stands in
       let is = T .mirrors .is in
-      rw (frame-agrees joined-orderly T)
+      rw (frame-agrees (orderly-cut w r joined-orderly) T, frame-cut w (r .mode) r)
       (ap done
       (shown-alike g (ap (λ (q : RustPool). q .mode) is) (ap (λ (q : RustPool). q .inner-memory .live) is)
-      (ap (λ (f : Place). seen f (bytesAt m (frame r))) (frame-place r m p T) ∙ viewed TheFrame (frame r) frame-view)
-      (ap (rustSeen p) (reservation-place r m p T)
+      (ap (λ (f : Place). seen f (bytesAt m (frame r))) (frame-place w r m p T) ∙ viewed TheFrame (frame r) frame-view)
+      (ap (rustSeen p) (reservation-place w r m p T)
       ∙ part-seen TheReservation (reservation r) reservation-view (reservation-kept w r joined-orderly))
       (ap (map (λ h. rustSeen p (h .place))) (J .held-is) ∙ slices-seen (s .held) (J .holds .named))))
 

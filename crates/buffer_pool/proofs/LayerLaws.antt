@@ -32,11 +32,11 @@ gone-out p moves out kept q z k e f =
 -- ---- B
 
 module _ (p : BufferPool) (len : ℕ) (b : Bool) (e : b ≡ leb (p .«raw_offset» + p .«raw_len» + len) (p .capacity)) where
-  pub no-bytes : not b ≡ true → false ≡ backFits 8 p len
+  pub no-bytes : not b ≡ true → false ≡ backFits (p .slots) p len
   unfolding backFits
   no-bytes h = rw (← e, not-true b h)
 
-  pub bytes-left : not b ≡ false → ltb (p .«back_start» + p .«back_len») 8 ≡ backFits 8 p len
+  pub bytes-left : not b ≡ false → ltb (p .«back_start» + p .«back_len») (p .slots) ≡ backFits (p .slots) p len
   unfolding backFits
   bytes-left h = rw (← e, not-false b h)
 
@@ -52,42 +52,42 @@ cleared-false true q r t e h = absurd (no-true (sym h ∙ ap (λ (x : Cleared). 
 cleared-false false q r t e h = refl
 
 -- the tail is clearable where the code's test said so
-module _ (p : BufferPool) (c : Bool) (g : c ≡ clearable 8 p) (h : not c ≡ false) where
-  pub known-clearable : clearable 8 p ≡ true
+module _ (p : BufferPool) (c : Bool) (g : c ≡ clearable (p .slots) p) (h : not c ≡ false) where
+  pub known-clearable : clearable (p .slots) p ≡ true
   known-clearable = sym g ∙ not-false c h
 
-  pub known-full : p .«back_start» + p .«back_len» ≡ 8
+  pub known-full : p .«back_start» + p .«back_len» ≡ p .slots
   known-full = clearable-is-full p known-clearable
 
-module _ (p : BufferPool) (moves : Moves) (len : ℕ) (m : ModeStep) (b : Bool) (e : b ≡ backFits 8 p len) where
-  pub back-keeps : p .mode ≡ Back → b ≡ true → layerOf m ≡ stay (p .mode) p (listed moves) → layerOf m ≡ ahead (listed moves) (backLayer 8 p len)
+module _ (p : BufferPool) (moves : Moves) (len : ℕ) (m : ModeStep) (b : Bool) (e : b ≡ backFits (p .slots) p len) where
+  pub back-keeps : p .mode ≡ Back → b ≡ true → layerOf m ≡ stay (p .mode) p (listed moves) → layerOf m ≡ ahead (listed moves) (backLayer (p .slots) p len)
   unfolding backLayer backOn ahead
   back-keeps h t f = f ∙ rw (← e, t, h, append-nil (listed moves))
 
-  module _ (n : b ≡ false) (c : Bool) (g : c ≡ clearable 8 p) where
-    pub back-not-clearable : not c ≡ true → layerOf m ≡ goOut p (listed moves) → layerOf m ≡ ahead (listed moves) (backLayer 8 p len)
+  module _ (n : b ≡ false) (c : Bool) (g : c ≡ clearable (p .slots) p) where
+    pub back-not-clearable : not c ≡ true → layerOf m ≡ goOut p (listed moves) → layerOf m ≡ ahead (listed moves) (backLayer (p .slots) p len)
     unfolding backLayer backOn ahead
     back-not-clearable h f = f ∙ rw (← e, n, ← g, not-true c h)
 
-    module _ (h : not c ≡ false) (t : Cleared) (i : t ≡ clearedOn (tailFits 8 p len) (tailCleared 8 p) p) where
+    module _ (h : not c ≡ false) (t : Cleared) (i : t ≡ clearedOn (tailFits (p .slots) p len) (tailCleared (p .slots) p) p) where
       pub back-clears-tail : t .cleared ≡ true → (out : Moves)
           → listed out ≡ listed moves ++ within (p .«raw_offset») (p .«raw_len») (t .pool .«raw_offset»)
-          → layerOf m ≡ stay (t .pool .mode) (t .pool) (listed out) → layerOf m ≡ ahead (listed moves) (backLayer 8 p len)
+          → layerOf m ≡ stay (t .pool .mode) (t .pool) (listed out) → layerOf m ≡ ahead (listed moves) (backLayer (p .slots) p len)
       unfolding backLayer backOn ahead
       back-clears-tail k out o f =
-          let x = cleared-true (tailFits 8 p len) (tailCleared 8 p) p t i k in
+          let x = cleared-true (tailFits (p .slots) p len) (tailCleared (p .slots) p) p t i k in
           f ∙ rw (o, x .1, ← e, n, ← g, not-false c h, x .0)
 
-      module _ (j : t .cleared ≡ false) (u : Cleared) (v : u ≡ clearedOn (headFits 8 p) (headCleared 8 p) p) where
+      module _ (j : t .cleared ≡ false) (u : Cleared) (v : u ≡ clearedOn (headFits (p .slots) p) (headCleared (p .slots) p) p) where
         pub back-clears-head : u .cleared ≡ true → (out : Moves)
             → listed out ≡ listed moves ++ within (p .«raw_offset») (p .«raw_len») 0
-            → layerOf m ≡ change false (u .pool) (listed out) → layerOf m ≡ ahead (listed moves) (backLayer 8 p len)
+            → layerOf m ≡ change false (u .pool) (listed out) → layerOf m ≡ ahead (listed moves) (backLayer (p .slots) p len)
         unfolding backLayer backOn ahead
         back-clears-head k out o f =
-            let x = cleared-true (headFits 8 p) (headCleared 8 p) p u v k in
-            f ∙ rw (o, x .1, ← e, n, ← g, not-false c h, cleared-false (tailFits 8 p len) (tailCleared 8 p) p t i j, x .0)
+            let x = cleared-true (headFits (p .slots) p) (headCleared (p .slots) p) p u v k in
+            f ∙ rw (o, x .1, ← e, n, ← g, not-false c h, cleared-false (tailFits (p .slots) p len) (tailCleared (p .slots) p) p t i j, x .0)
 
-        pub back-goes-out : u .cleared ≡ false → layerOf m ≡ goOut p (listed moves) → layerOf m ≡ ahead (listed moves) (backLayer 8 p len)
+        pub back-goes-out : u .cleared ≡ false → layerOf m ≡ goOut p (listed moves) → layerOf m ≡ ahead (listed moves) (backLayer (p .slots) p len)
         unfolding backLayer backOn ahead
         back-goes-out k f =
-            f ∙ rw (← e, n, ← g, not-false c h, cleared-false (tailFits 8 p len) (tailCleared 8 p) p t i j, cleared-false (headFits 8 p) (headCleared 8 p) p u v k)
+            f ∙ rw (← e, n, ← g, not-false c h, cleared-false (tailFits (p .slots) p len) (tailCleared (p .slots) p) p t i j, cleared-false (headFits (p .slots) p) (headCleared (p .slots) p) p u v k)

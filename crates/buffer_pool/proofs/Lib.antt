@@ -1,5 +1,6 @@
 pub mod Cases
 pub mod SliceLaws
+pub mod Cut
 pub mod ByteLaws
 pub mod BoundLaws
 pub mod MoveLaws

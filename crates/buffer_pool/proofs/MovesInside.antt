@@ -191,11 +191,11 @@ module _ (w : ℕ) (r : BufferPool) (S : Orderly w r) where
       go true false q z Alloc I = refl
 
   -- the reset leaves the sizes
-  reset-sizes : (reset w r .capacity ≡ r .capacity) × (reset w r .overflow ≡ r .overflow)
+  reset-sizes : (reset r .capacity ≡ r .capacity) × (reset r .overflow ≡ r .overflow)
   unfolding reset resetOn
   reset-sizes = go (resets r) (ltb (r .cursor) (r .capacity)) (eqb (r .cursor) 0) (r .mode)
     where
-      go : (a t z : Bool) (mode : PoolMode) → (resetOn a t z mode w r .capacity ≡ r .capacity) × (resetOn a t z mode w r .overflow ≡ r .overflow)
+      go : (a t z : Bool) (mode : PoolMode) → (resetOn a t z mode r .capacity ≡ r .capacity) × (resetOn a t z mode r .overflow ≡ r .overflow)
       go false t z mode = (refl, refl)
       go true t z Back = (refl, refl)
       go true t z (Front f) = (refl, refl)
@@ -208,8 +208,8 @@ module _ (w : ℕ) (r : BufferPool) (S : Orderly w r) where
   unfolding place tooLong
   moves-inside len e =
       let f = reset-fit w r S in
-      let moves : List Move = placeOf w mostChanges false (reset w r .mode) (reset w r) len .moves in
+      let moves : List Move = placeOf w mostChanges false (reset r .mode) (reset r) len .moves in
       inside-append (r .capacity) (r .overflow) (resetMoves (resets r) (ltb (r .cursor) (r .capacity)) (eqb (r .cursor) 0) (r .mode) r) moves reset-inside
       (subst (λ (c : ℕ). allInside c (r .overflow) moves ≡ true) (reset-sizes .0)
-      (subst (λ (o : ℕ). allInside (reset w r .capacity) o moves ≡ true) (reset-sizes .1)
-      (placed-inside w len (reset w r .mode) (reset w r) (f .0) (f .1) (λ h. ltb-false _ _ (rw h at e)))))
+      (subst (λ (o : ℕ). allInside (reset r .capacity) o moves ≡ true) (reset-sizes .1)
+      (placed-inside w len (reset r .mode) (reset r) (f .0) (f .1) (λ h. ltb-false _ _ (rw h at e)))))

@@ -135,6 +135,7 @@ claimedSlot w x i start len serial caller =
     record {
       capacity = x .capacity;
       overflow = x .overflow;
+      slots = x .slots;
       live = claimed w (x .live) (suc i);
       starts = set (x .starts) i start;
       lengths = set (x .lengths) i len;
@@ -205,6 +206,7 @@ withLive x live =
     record {
       capacity = x .capacity;
       overflow = x .overflow;
+      slots = x .slots;
       live = live;
       starts = x .starts;
       lengths = x .lengths;

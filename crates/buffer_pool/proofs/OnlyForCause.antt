@@ -1,7 +1,7 @@
 -- Every call is refused with the first of its causes that holds, and with 0 where none does, for every record and memories. 1
 -- and 2 are tested first; of the rest the step's own test is the cause, in other words: for 4 the Rust's own reserve decides
 -- by `rust-agrees`, for 7 the test is turned over. Assumes nothing.
-use mathlib.Core.Path.{_≡_, refl, sym, _∙_}
+use mathlib.Core.Path.{_≡_, refl, sym, _∙_, ap}
 use mathlib.Core.Bool.{Bool, true, false, not, _&&_, _||_}
 use mathlib.Core.List.{List, [], _∷_}
 use mathlib.Core.Logic.{_⊎_, inl, inr}
@@ -13,31 +13,34 @@ use lib.ListN.{length}
 use lib.Seq.{length-take-le}
 use Rattle.laws.specs.Tests.{pick}
 use Rattle.laws.specs.Live.{liveAt}
+use Rattle.laws.proofs.Tests.{no-true}
 use Rattle.buffer_pool.specs.declared.slice.Handle.{Handle}
 use Rattle.buffer_pool.specs.declared.buffer_pool.BufferPool.{BufferPool}
 use Rattle.buffer_pool.specs.declared.buffer_pool.PoolMode.{PoolMode}
 use Rattle.buffer_pool.specs.declared.buffer_pool.PoolMode.the-variants.{Back, Front, Alloc}
 use Rattle.buffer_pool.specs.declared.buffer_pool.Memory.the-variants.{Pool}
+use Rattle.buffer_pool.specs.declared.buffer_pool.Place.{Place}
 use Rattle.buffer_pool.specs.declared.buffer_pool.Answer.the-variants.{Done}
-use Rattle.buffer_pool.specs.Record.{byteLimit, callerCount, startAt}
+use Rattle.buffer_pool.specs.Record.{cut, byteLimit, callerCount, startAt}
 use Rattle.buffer_pool.specs.Moves.{Memories}
 use Rattle.buffer_pool.specs.Placing.{Decision, place, tooLong, isAlloc}
-use Rattle.buffer_pool.specs.Soundness.{sound}
+use Rattle.buffer_pool.specs.Soundness.{isCount, sound}
 use Rattle.buffer_pool.specs.Sound.{Orderly}
 use Rattle.buffer_pool.specs.Values.{refusal}
 use Rattle.buffer_pool.specs.Steps.{called, refused, at, frame, frameOf, reservation, reserveOn, reserveStep, resized, reframed, commitStep, truncateStep, mostSerials, givenTo, takeOn, takeStep, names, freed, releaseStep}
 use Rattle.buffer_pool.specs.declared.buffer_pool.View.{View}
 use Rattle.buffer_pool.specs.Calls.{Outcome, outcome, misfit, guarded, guardedCall, newOn, new, reserve, commit, truncate, copiedOut, take, release, hidden, shown, frameView, reservationView, sliceView}
 use Rattle.buffer_pool.specs.Rust.{RustPool, rust-reserve}
-use Rattle.buffer_pool.specs.AsRust.{rustOf, heapOf, Mirrors, Stands}
+use Rattle.buffer_pool.specs.AsRust.{Exact, rustOf, heapOf, Mirrors, Stands}
 use Rattle.buffer_pool.specs.Vocabulary.{Part, TheFrame, TheReservation, TheSlice, Call, Reserve, Commit, Truncate, Take, Release, Look, viewOf, call, numberOf}
-use Rattle.buffer_pool.specs.Causes.{unsound, tooLarge, inOverflow, usesHeap, heapTooShort, pastReservation, destinationTooShort, unknownCaller, unknown, serialsExhausted, Cause, cause, viewCauses, ownCauses, causes, newCauses, firstCause, First}
+use Rattle.buffer_pool.specs.Causes.{unsound, tooLarge, wrongCount, inOverflow, usesHeap, heapTooShort, pastReservation, destinationTooShort, unknownCaller, unknown, serialsExhausted, Cause, cause, viewCauses, ownCauses, causes, newCauses, firstCause, First}
 use Rattle.buffer_pool.proofs.ViewPlaces.{fits}
 use Rattle.buffer_pool.proofs.Soundness.{sound-use}
 use Rattle.buffer_pool.proofs.Answers.{view-number}
 use Rattle.buffer_pool.proofs.Unchanged.{place-overflow}
 use Rattle.buffer_pool.proofs.FrameLength.{place-leaves}
 use Rattle.buffer_pool.proofs.RustAgrees.{rust-agrees}
+use Rattle.buffer_pool.proofs.Cut.{frame-cut, orderly-cut, exact-cut, placed-cut}
 
 -- ---- Cause 4, by the Rust's reserve
 
@@ -57,12 +60,12 @@ module _ (w : ℕ) (r : BufferPool) (len : ℕ) (O : Orderly w r) where
   counted (Front f) q a b = refl
   counted Alloc q a b = rw (a, b) refl
 
-  heap-is : (k : ℕ) (m : Memories) (p : RustPool) → Mirrors r m p
+  heap-is : (k : ℕ) (m : Memories) (p : RustPool) → Exact w r → Mirrors r m p
       → (usesHeap (rust-reserve w (suc (suc (suc k))) p len) && ltb (r .overflow) (frame r .length + len)) ≡ tooLong d len
   unfolding tooLong
-  heap-is k m p M =
+  heap-is k m p X M =
       let L = place-leaves w r len O in
-      rw (rust-agrees w k r m p len O M .run-is, mode-memory (d .next .mode) (d .next), L .1)
+      rw (rust-agrees w k r m p len X O M .run-is, mode-memory (d .next .mode) (d .next), L .1)
       (counted (d .next .mode) (d .next) (place-overflow w r len) (L .0))
 
 -- ---- Memories of the record's lengths
@@ -79,6 +82,15 @@ mirrored w r m O a b =
       own-is = λ e. refl;
     }
 
+-- the same of a record with longer arrays: the Rust's pool is that of its cut
+heap-cut : (w : ℕ) (r : BufferPool) (len : ℕ) → Orderly w r → (k : ℕ) (m : Memories) (p : RustPool) → Mirrors (cut w r) (heapOf r m) p
+    → (usesHeap (rust-reserve w (suc (suc (suc k))) p len) && ltb (r .overflow) (frame r .length + len)) ≡ tooLong (place w r len) len
+unfolding tooLong
+heap-cut w r len O k m p M =
+    ap (λ (x : Place). usesHeap (rust-reserve w (suc (suc (suc k))) p len) && ltb (r .overflow) (x .length + len)) (sym (frame-cut w (r .mode) r))
+    ∙ heap-is w (cut w r) len (orderly-cut w r O) k (heapOf r m) p (exact-cut w r (orderly-cut w r O)) M
+    ∙ ap (λ (d : Decision). tooLong d len) (placed-cut w r len O)
+
 -- ---- The steps
 
 -- the step's number is that of the first of its own causes
@@ -86,7 +98,7 @@ reserve-first : (w : ℕ) (r : BufferPool) (m : Memories) (len : ℕ) → Orderl
     → refusal (reserveStep w r len .answer) ≡ firstCause (cause 4 (heapTooShort w r m len) ∷ [])
 unfolding reserveStep reserveOn refusal heapTooShort firstCause
 reserve-first w r m len O e =
-    rw (heap-is w r len O 0 (heapOf r m) (rustOf r (heapOf r m) (r .reserved)) (mirrored w r m O (fits r m e .0) (fits r m e .1))) (go (tooLong (place w r len) len))
+    rw (heap-cut w r len O 0 m (rustOf (cut w r) (heapOf r m) (r .reserved)) (mirrored w (cut w r) m (orderly-cut w r O) (fits r m e .0) (fits r m e .1))) (go (tooLong (place w r len) len))
   where
     go : (t : Bool) → refusal (reserveOn t r (place w r len) .answer) ≡ pick t 4 0
     go true = refl
@@ -229,27 +241,38 @@ module _ (w : ℕ) (r : BufferPool) (m : Memories) where
   only-for-cause (Release h) = call-first [] _ _ (λ O e. release-first w r h)
   only-for-cause (Look part) = view-number (viewOf w r m part .number) (viewOf w r m part .place) ∙ part-first part
 
+-- ---- Another slot count: a sound record has 8 or 16
+
+pub other-count : (w : ℕ) (r : BufferPool) (m : Memories) (c : Call) → wrongCount w ≡ true → numberOf w r m c ≡ 1
+unfolding wrongCount causes unsound firstCause
+other-count w r m c h = only-for-cause w r m c ∙ go (sound w r) refl
+  where
+    go : (b : Bool) → sound w r ≡ b → firstCause (cause 1 (not b) ∷ cause 2 (misfit r m) ∷ ownCauses w r m c) ≡ 1
+    go true e = absurd (no-true (sym (ap not (sound-use w r e .orderly .ready .is-count)) ∙ h))
+    go false e = refl
+
 -- ---- New
 
-pub new-only-for-cause : (w : ℕ) (m : Memories) → refusal (new w m .call .answer) ≡ firstCause (newCauses m)
-unfolding new refusal newCauses tooLarge firstCause
-new-only-for-cause w m = go (ltb byteLimit (length (m .pool)) || ltb byteLimit (length (m .overflow)))
+pub new-only-for-cause : (w : ℕ) (m : Memories) → refusal (new w m .call .answer) ≡ firstCause (newCauses w m)
+unfolding new refusal newCauses wrongCount tooLarge firstCause
+new-only-for-cause w m = go (isCount w) (ltb byteLimit (length (m .pool)) || ltb byteLimit (length (m .overflow)))
   where
-    go : (t : Bool) → refusal (newOn t w m .call .answer) ≡ pick t 3 0
-    go true = refl
-    go false = refl
+    go : (i t : Bool) → refusal (newOn i t w m .call .answer) ≡ pick (not i) 16 (pick t 3 0)
+    go false t = refl
+    go true true = refl
+    go true false = refl
 
 -- ---- 4 in the Rust's terms
 
 -- whichever of the Rust's pools stands for the record and the memories, and however many more calls of `reserve_` are allowed
-pub four-is-the-rusts : (w k : ℕ) (r : BufferPool) (m : Memories) (p : RustPool) (len : ℕ) → sound w r ≡ true → Stands r m p
+pub four-is-the-rusts : (w k : ℕ) (r : BufferPool) (m : Memories) (p : RustPool) (len : ℕ) → sound w r ≡ true → Stands (cut w r) m p
     → heapTooShort w r m len
     ≡ (usesHeap (rust-reserve w (suc (suc (suc k))) p len) && ltb (r .overflow) (frame r .length + len))
 unfolding heapTooShort
 four-is-the-rusts w k r m p len s T =
     let O = sound-use w r s .orderly in
-    heap-is w r len O 0 (heapOf r m) (rustOf r (heapOf r m) (r .reserved)) (mirrored w r m O (T .mirrors .pool-size) (T .overflow-size))
-    ∙ sym (heap-is w r len O k (heapOf r m) p (T .mirrors))
+    heap-cut w r len O 0 m (rustOf (cut w r) (heapOf r m) (r .reserved)) (mirrored w (cut w r) m (orderly-cut w r O) (T .mirrors .pool-size) (T .overflow-size))
+    ∙ sym (heap-cut w r len O k m p (T .mirrors))
 
 -- ---- The first cause, in words
 

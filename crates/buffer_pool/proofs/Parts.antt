@@ -1,10 +1,12 @@
 -- A record with some of its fields replaced: what it keeps of the soundness of the record it came from, and what has to be
 -- shown anew. Each lemma here builds one part of `Orderly`, with an argument for each clause that the fields touch.
 -- Assumes nothing.
-use mathlib.Core.Path.{_≡_}
+use mathlib.Core.Bool.{Bool, true, false, _||_}
 use mathlib.Core.List.{List}
 use Prim.Native.Nat.{ℕ, _+_, _^_, _≤_, _<_, max}
-use native.Mathlib.Nat.{le-refl}
+use mathlib.Core.Path.{_≡_, refl}
+use lib.Dec.{eqb}
+use borrow.Author.Tests.{eqb-true}
 use lib.ListN.{length, replicate, length-replicate}
 use native.Mathlib.Omega.{arith}
 use Rattle.buffer_pool.specs.declared.buffer_pool.BufferPool.{BufferPool}
@@ -12,7 +14,9 @@ use Rattle.buffer_pool.specs.declared.buffer_pool.PoolFront.{PoolFront}
 use Rattle.buffer_pool.specs.declared.buffer_pool.PoolMode.{PoolMode}
 use Rattle.buffer_pool.specs.declared.buffer_pool.PoolMode.the-variants.{Back, Front, Alloc}
 use Rattle.buffer_pool.specs.Record.{startAt, after, placed, framed, marked}
+use Rattle.buffer_pool.specs.Soundness.{isCount}
 use Rattle.buffer_pool.specs.Steps.{longer}
+use Rattle.buffer_pool.specs.Deciding.{Worded}
 use Rattle.buffer_pool.specs.Sound.{Held, Slots, SerialsFit, Ready, InBack, Side, InFront, InAlloc, InMode, Orderly}
 use Rattle.buffer_pool.proofs.Order.{none-held}
 
@@ -26,6 +30,8 @@ module _ {w : ℕ} {r : BufferPool} (R : Ready w r) where
       → Ready w (placed (marked r live starts lengths serials callers given) mode s n used offset)
   ready-marked slots serials start within none low =
       record {
+        count-is = R .count-is;
+        is-count = R .is-count;
         slots = slots;
         serials-fit = serials;
         kept-in = R .kept-in;
@@ -45,6 +51,8 @@ module _ {w : ℕ} {r : BufferPool} (R : Ready w r) where
       → Ready w (framed r mode offset len kept cursor reserved)
   ready-framed kept =
       record {
+        count-is = R .count-is;
+        is-count = R .is-count;
         slots = R .slots;
         serials-fit = R .serials-fit;
         kept-in = kept;
@@ -117,8 +125,21 @@ weaken w Alloc r h I = alloc-kept I (omega (arith, I .fits))
 
 -- ---- No live slot: any entries do, if there are enough
 
-pub zeros-long : (w : ℕ) → w ≤ length {A = ℕ} (replicate w 0)
-zeros-long w = simp length-replicate (le-refl w)
+pub zeros-long : (w n : ℕ) → w ≤ n → w ≤ length {A = ℕ} (replicate n 0)
+zeros-long w n h = simp length-replicate h
+
+-- a slot count is some, and at most 16
+pub count-bounds : (w : ℕ) → isCount w ≡ true → (0 < w) × (w ≤ 16)
+unfolding isCount
+count-bounds w e = go (eqb w 8) refl e
+  where
+    go : (b : Bool) → eqb w 8 ≡ b → (b || eqb w 16) ≡ true → (0 < w) × (w ≤ 16)
+    go true d e = let x = eqb-true w 8 d in (omega arith, omega arith)
+    go false d e = let x = eqb-true w 16 e in (omega arith, omega arith)
+
+-- a ready record has a place in its arrays and a bit in its live word for every slot
+pub ready-worded : (w : ℕ) (r : BufferPool) → Ready w r → Worded r
+ready-worded w r R = record { most = rw (R .count-is) (count-bounds w (R .is-count) .1); word = rw (R .count-is) (R .slots .live-fits) }
 
 pub no-slots : {w live : ℕ} {starts lengths : List ℕ} {capacity : ℕ} → live ≡ 0 → live < 2 ^ w
     → w ≤ length starts → w ≤ length lengths → Slots w live starts lengths capacity

@@ -23,13 +23,13 @@ use Rattle.buffer_pool.specs.declared.buffer_pool.Called.{Called}
 use Rattle.buffer_pool.specs.Record.{byteLimit, callerCount}
 use Rattle.buffer_pool.specs.Moves.{Memories, perform}
 use Rattle.buffer_pool.specs.Placing.{place, tooLong}
-use Rattle.buffer_pool.specs.Soundness.{sound}
+use Rattle.buffer_pool.specs.Soundness.{isCount, sound}
 use Rattle.buffer_pool.specs.Values.{refusal, values}
 use Rattle.buffer_pool.specs.Steps.{refused, at, frame, reserveOn, reserveStep, commitStep, truncateStep, mostSerials, givenTo, takeOn, takeStep, takeMoves, names, releaseStep}
 use Rattle.buffer_pool.specs.declared.buffer_pool.View.{View}
 use Rattle.buffer_pool.specs.Calls.{Outcome, outcome, misfit, guarded, guardedCall, newRefused, newDone, newOn, new, reserve, commit, truncate, copiedOut, take, release, hidden, frameView, reservationView, sliceView, written}
 use Rattle.buffer_pool.specs.Vocabulary.{Part, TheFrame, TheReservation, TheSlice, Call, Reserve, Commit, Truncate, Take, Release, Look, viewOf, viewAnswer, call, numberOf, destinationOf}
-use Rattle.buffer_pool.specs.Causes.{tooLarge}
+use Rattle.buffer_pool.specs.Causes.{tooLarge, wrongCount}
 
 -- an outcome that, where it is a refusal, leaves these
 abbrev Keeps : BufferPool → Memories → List ℕ → Outcome → Type 0
@@ -139,10 +139,14 @@ module _ (w : ℕ) (r : BufferPool) (m : Memories) where
 -- ---- New
 
 pub new-cases : (w : ℕ) (m : Memories)
-    → ((tooLarge m ≡ false) × (new w m ≡ newDone w m)) ⊎ ((tooLarge m ≡ true) × (new w m ≡ newRefused w m))
-unfolding new tooLarge
-new-cases w m = go (ltb byteLimit (length (m .pool)) || ltb byteLimit (length (m .overflow)))
+    → ((wrongCount w ≡ false) × (tooLarge m ≡ false) × (new w m ≡ newDone w m))
+    ⊎ (((wrongCount w ≡ true) × (new w m ≡ newRefused 16 m))
+    ⊎ ((wrongCount w ≡ false) × (tooLarge m ≡ true) × (new w m ≡ newRefused 3 m)))
+unfolding new tooLarge wrongCount
+new-cases w m = go (isCount w) (ltb byteLimit (length (m .pool)) || ltb byteLimit (length (m .overflow)))
   where
-    go : (t : Bool) → ((t ≡ false) × (newOn t w m ≡ newDone w m)) ⊎ ((t ≡ true) × (newOn t w m ≡ newRefused w m))
-    go false = inl (refl, refl)
-    go true = inr (refl, refl)
+    go : (i t : Bool) → ((not i ≡ false) × (t ≡ false) × (newOn i t w m ≡ newDone w m))
+        ⊎ (((not i ≡ true) × (newOn i t w m ≡ newRefused 16 m)) ⊎ ((not i ≡ false) × (t ≡ true) × (newOn i t w m ≡ newRefused 3 m)))
+    go true false = inl (refl, refl, refl)
+    go false t = inr (inl (refl, refl))
+    go true true = inr (inr (refl, refl, refl))

@@ -174,7 +174,7 @@ module _ (w : ℕ) (r : BufferPool) (S : Orderly w r) where
   emptied-kept : r .live ≡ 0 → Ready w (placed r Back 0 0 0 0)
   emptied-kept z = emptied z (R .slots .starts-w) (R .slots .lengths-w)
 
-  pub reset-fit : Fit w (reset w r)
+  pub reset-fit : Fit w (reset r)
   unfolding reset resetOn
   reset-fit = go (resets r) refl (ltb (r .cursor) (r .capacity)) refl (eqb (r .cursor) 0) refl (r .mode) (kept-fit .1)
     where
@@ -182,7 +182,7 @@ module _ (w : ℕ) (r : BufferPool) (S : Orderly w r) where
       some = omega (arith, R .start-below)
 
       go : (a : Bool) → resets r ≡ a → (t : Bool) → ltb (r .cursor) (r .capacity) ≡ t → (z : Bool) → eqb (r .cursor) 0 ≡ z
-          → (mode : PoolMode) → InMode w mode r 0 → Fit w (resetOn a t z mode w r)
+          → (mode : PoolMode) → InMode w mode r 0 → Fit w (resetOn a t z mode r)
       go false p t q z s mode I = kept-fit
       go true p t q z s Back I =
           let e = none-live r p in
@@ -192,7 +192,7 @@ module _ (w : ℕ) (r : BufferPool) (S : Orderly w r) where
           (emptied-kept e, no-slots-back e refl (I .no-cursor) (omega (arith, I .fits, I .bytes-within)) some)
       go true p true q true s Alloc I =
           let e = none-live r p in
-          (emptied e (zeros-long w) (zeros-long w), no-slots-back e refl (eqb-true (r .cursor) 0 s) (omega (arith, I .no-len)) some)
+          (emptied e (zeros-long w _ (R .slots .starts-w)) (zeros-long w _ (R .slots .lengths-w)), no-slots-back e refl (eqb-true (r .cursor) 0 s) (omega (arith, I .no-len)) some)
       go true p true q false s Alloc I =
           let e = none-live r p in
           let h = ltb-true (r .cursor) (r .capacity) q in
@@ -212,7 +212,7 @@ pub place-orderly : (w : ℕ) (r : BufferPool) (len : ℕ) → Orderly w r → t
 unfolding place tooLong
 place-orderly w r len S e =
     let f = reset-fit w r S in
-    place-after w len (reset w r .mode) (reset w r) (f .0) (f .1) (λ h. ltb-false _ _ (rw h at e))
+    place-after w len (reset r .mode) (reset r) (f .0) (f .1) (λ h. ltb-false _ _ (rw h at e))
 
 -- every reserve of every length, refused (4) or not
 pub reserve-kept : (w : ℕ) (r : BufferPool) (len : ℕ) → Orderly w r → Orderly w (reserveStep w r len .pool)

@@ -6,6 +6,7 @@ use Prim.Native.Nat.{ℕ, _+_, _-_, _≤_, _<_}
 use native.Mathlib.Nat.{zero-add}
 use native.Mathlib.Omega.{arith}
 use lib.Dec.{ltb, eqb}
+use lib.ListN.{length, replicate}
 use borrow.Author.Tests.{lt-ltb, le-ltb, eq-eqb, ne-eqb, eqb-true}
 use Rattle.laws.proofs.Tests.{no-true}
 use Rattle.buffer_pool.specs.declared.buffer_pool.BufferPool.{BufferPool}
@@ -16,11 +17,12 @@ use Rattle.buffer_pool.specs.declared.moves.Moves.{Moves}
 use Rattle.buffer_pool.specs.declared.moves.MoveKind.the-variants as kind
 use Rattle.buffer_pool.specs.declared.placing.Start.{Start}
 use Rattle.buffer_pool.specs.declared.placing.Decided.{Decided}
-use Rattle.buffer_pool.specs.Record.{placed, framed, withoutEntries}
+use Rattle.buffer_pool.specs.Record.{mostSlots, placed, framed, marked, withoutEntries}
 use Rattle.buffer_pool.specs.Moves.{Move, In, Down, within}
 use Rattle.buffer_pool.specs.MoveList.{byteMove, moveOf, listed}
 use Rattle.buffer_pool.specs.Placing.{Decision, isAlloc, resets, resetOn, resetMoves, reset, placeOf, place}
 use Rattle.buffer_pool.specs.Deciding.{Placeable, Starts, Decides, following}
+use Rattle.buffer_pool.proofs.DecidingLaws.{placeable-as}
 
 -- ---- Does it reset?
 
@@ -57,24 +59,24 @@ starts-in-pool p q none out e n z o c = record { pool-is = e; moves-is = o ∙ a
 
 module _ (p : BufferPool) (none : Moves) (n : listed none ≡ []) (z : none .count ≡ 0) where
   pub reset-stays : p .capacity ≤ p .cursor → (q : BufferPool) → q ≡ placed p Alloc (p .«back_start») (p .«back_len») 0 (p .«raw_offset»)
-      → Starts (record { pool = q; moves = none }) (resetOn true (ltb (p .cursor) (p .capacity)) (eqb (p .cursor) 0) Alloc 8 p)
+      → Starts (record { pool = q; moves = none }) (resetOn true (ltb (p .cursor) (p .capacity)) (eqb (p .cursor) 0) Alloc p)
       (resetMoves true (ltb (p .cursor) (p .capacity)) (eqb (p .cursor) 0) Alloc p)
   unfolding resetOn resetMoves
   reset-stays h q e = rw (le-ltb (p .cursor) (p .capacity) h) (record { pool-is = e; moves-is = n; few = omega arith })
 
   module _ (h : p .cursor < p .capacity) (q : BufferPool) (e : q ≡ placed p Back 0 0 0 0) (r : BufferPool) where
-    pub reset-empty : p .cursor ≡ 0 → r ≡ withoutEntries 8 q
-        → Starts (record { pool = r; moves = none }) (resetOn true (ltb (p .cursor) (p .capacity)) (eqb (p .cursor) 0) Alloc 8 p)
+    pub reset-empty : p .cursor ≡ 0 → r ≡ withoutEntries q
+        → Starts (record { pool = r; moves = none }) (resetOn true (ltb (p .cursor) (p .capacity)) (eqb (p .cursor) 0) Alloc p)
         (resetMoves true (ltb (p .cursor) (p .capacity)) (eqb (p .cursor) 0) Alloc p)
     unfolding resetOn resetMoves
     reset-empty c f =
         rw (lt-ltb (p .cursor) (p .capacity) h, eq-eqb (p .cursor) 0 c)
-        (record { pool-is = f ∙ ap (withoutEntries 8) e; moves-is = n; few = omega arith })
+        (record { pool-is = f ∙ ap withoutEntries e; moves-is = n; few = omega arith })
 
     pub reset-brings : (p .cursor ≡ 0 → ⊥) → r ≡ framed q Back 0 (p .cursor) (p .kept - p .cursor) 0 (p .reserved)
         → (one two : Moves) → listed one ≡ listed none ++ (moveOf (byteMove kind.In (p .cursor) 0 0) ∷ []) → one .count ≡ none .count + 1
         → listed two ≡ listed one ++ (moveOf (byteMove kind.Down (p .cursor) (p .kept - p .cursor) 0) ∷ []) → two .count ≡ one .count + 1
-        → Starts (record { pool = r; moves = two }) (resetOn true (ltb (p .cursor) (p .capacity)) (eqb (p .cursor) 0) Alloc 8 p)
+        → Starts (record { pool = r; moves = two }) (resetOn true (ltb (p .cursor) (p .capacity)) (eqb (p .cursor) 0) Alloc p)
         (resetMoves true (ltb (p .cursor) (p .capacity)) (eqb (p .cursor) 0) Alloc p)
     unfolding resetOn resetMoves moveOf
     reset-brings c f one two i j k l =
@@ -89,7 +91,7 @@ module _ (p : BufferPool) (none : Moves) (n : listed none ≡ []) (z : none .cou
 module _ (p : BufferPool) (s : Start) where
   abbrev byMode : PoolMode → Type 0
   byMode mode =
-      Starts s (resetOn true (ltb (p .cursor) (p .capacity)) (eqb (p .cursor) 0) mode 8 p) (resetMoves true (ltb (p .cursor) (p .capacity)) (eqb (p .cursor) 0) mode p)
+      Starts s (resetOn true (ltb (p .cursor) (p .capacity)) (eqb (p .cursor) 0) mode p) (resetMoves true (ltb (p .cursor) (p .capacity)) (eqb (p .cursor) 0) mode p)
 
   pub reset-back : p .mode ≡ Back → Starts s (placed p Back 0 0 0 0) (within (p .«raw_offset») (p .«raw_len») 0) → byMode (p .mode)
   unfolding resetOn resetMoves
@@ -107,33 +109,43 @@ alloc-kept p k m = k (rw m)
 
 -- ---- The whole decision
 
-reset-placeable-as : (p : BufferPool) → Placeable 8 p → (short empty : Bool) → eqb (p .cursor) 0 ≡ empty → (mode : PoolMode) → p .mode ≡ mode → Placeable 8 (resetOn true short empty mode 8 p)
+reset-placeable-as : (w : ℕ) (p : BufferPool) → Placeable w p → (short empty : Bool) → eqb (p .cursor) 0 ≡ empty → (mode : PoolMode)
+    → p .mode ≡ mode → Placeable w (resetOn true short empty mode p)
 unfolding resetOn
-reset-placeable-as p P short empty z Back m = record { back-within = omega arith; front-within = omega arith; no-cursor = λ _. P .no-cursor (rw m) }
-reset-placeable-as p P short empty z (Front f) m = record { back-within = omega arith; front-within = omega arith; no-cursor = λ _. P .no-cursor (rw m) }
-reset-placeable-as p P true true z Alloc m = record { back-within = omega arith; front-within = omega arith; no-cursor = λ _. eqb-true (p .cursor) 0 z }
-reset-placeable-as p P true false z Alloc m = record { back-within = omega arith; front-within = omega arith; no-cursor = λ _. refl }
-reset-placeable-as p P false empty z Alloc m = record { back-within = P .back-within; front-within = omega arith; no-cursor = λ e. absurd (no-true (sym e)) }
+reset-placeable-as w p P short empty z Back m = placeable-as w p P _ refl refl (omega arith) (omega arith) (λ _. P .no-cursor (rw m))
+reset-placeable-as w p P short empty z (Front f) m = placeable-as w p P _ refl refl (omega arith) (omega arith) (λ _. P .no-cursor (rw m))
+reset-placeable-as w p P true true z Alloc m = placeable-as w p P _ refl refl (omega arith) (omega arith) (λ _. eqb-true (p .cursor) 0 z)
+reset-placeable-as w p P true false z Alloc m = placeable-as w p P _ refl refl (omega arith) (omega arith) (λ _. refl)
+reset-placeable-as w p P false empty z Alloc m = placeable-as w p P _ refl refl (P .back-within) (omega arith) (λ e. absurd (no-true (sym e)))
 
 module _ (p : BufferPool) (s : Start)
-    (S : Starts s (resetOn true (ltb (p .cursor) (p .capacity)) (eqb (p .cursor) 0) (p .mode) 8 p) (resetMoves true (ltb (p .cursor) (p .capacity)) (eqb (p .cursor) 0) (p .mode) p)) where
-  pub reset-placeable : Placeable 8 p → Placeable 8 (s .pool)
-  reset-placeable P = subst (Placeable 8) (sym (S .pool-is)) (reset-placeable-as p P _ (eqb (p .cursor) 0) refl (p .mode) refl)
+    (S : Starts s (resetOn true (ltb (p .cursor) (p .capacity)) (eqb (p .cursor) 0) (p .mode) p) (resetMoves true (ltb (p .cursor) (p .capacity)) (eqb (p .cursor) 0) (p .mode) p)) where
+  pub reset-placeable : Placeable (p .slots) p → Placeable (s .pool .slots) (s .pool)
+  reset-placeable P =
+      let Q = reset-placeable-as (p .slots) p P _ (eqb (p .cursor) 0) refl (p .mode) refl in
+      rw (S .pool-is) (subst (λ (w : ℕ). Placeable w (resetOn true (ltb (p .cursor) (p .capacity)) (eqb (p .cursor) 0) (p .mode) p)) (sym (Q .count-is)) Q)
 
   -- the decision of the record after the reset, with the reset's moves before it, is the whole
-  whole : (len : ℕ) (b : Bool) → b ≡ resets p → b ≡ true → following (listed (s .moves)) 0 (placeOf 8 2 false (s .pool .mode) (s .pool) len) ≡ place 8 p len
+  whole : (len : ℕ) (b : Bool) → b ≡ resets p → b ≡ true → following (listed (s .moves)) 0 (placeOf (p .slots) 2 false (s .pool .mode) (s .pool) len) ≡ place (p .slots) p len
   unfolding place reset following
   whole len b e t = rw (← e, t, S .moves-is, S .pool-is, zero-add)
 
-  pub decides-reset : (len : ℕ) (c : Decided) (b : Bool) → b ≡ resets p → b ≡ true
-      → Decides c (following (listed (s .moves)) 0 (placeOf 8 2 false (s .pool .mode) (s .pool) len)) len → Decides c (place 8 p len) len
-  decides-reset len c b e t D = subst (λ (d : Decision). Decides c d len) (whole len b e t) D
+  pub decides-reset : (len : ℕ) (c : Decided) (b : Bool) → b ≡ resets p → b ≡ true → Placeable (p .slots) p
+      → Decides c (following (listed (s .moves)) 0 (placeOf (s .pool .slots) 2 false (s .pool .mode) (s .pool) len)) len → Decides c (place (p .slots) p len) len
+  decides-reset len c b e t P D =
+      let k : s .pool .slots ≡ p .slots = ap (λ (q : BufferPool). q .slots) (S .pool-is) ∙ reset-placeable-as (p .slots) p P _ (eqb (p .cursor) 0) refl (p .mode) refl .count-is in
+      subst (λ (d : Decision). Decides c d len) (ap (λ (w : ℕ). following (listed (s .moves)) 0 (placeOf w 2 false (s .pool .mode) (s .pool) len)) k ∙ whole len b e t) D
 
 alone : (p : BufferPool) (len : ℕ) (b : Bool) (none : List Move) → b ≡ resets p → b ≡ false → none ≡ []
-    → following none 0 (placeOf 8 2 false (p .mode) p len) ≡ place 8 p len
+    → following none 0 (placeOf (p .slots) 2 false (p .mode) p len) ≡ place (p .slots) p len
 unfolding place reset following resetOn resetMoves
 alone p len b none e t n = rw (← e, t, n, zero-add)
 
 pub decides-without-reset : (p : BufferPool) (len : ℕ) (c : Decided) (b : Bool) (none : Moves) → b ≡ resets p → b ≡ false → listed none ≡ []
-    → Decides c (following (listed none) 0 (placeOf 8 2 false (p .mode) p len)) len → Decides c (place 8 p len) len
+    → Decides c (following (listed none) 0 (placeOf (p .slots) 2 false (p .mode) p len)) len → Decides c (place (p .slots) p len) len
 decides-without-reset p len c b none e t n D = subst (λ (d : Decision). Decides c d len) (alone p len b (listed none) e t n) D
+
+-- zeros in each place of both arrays
+pub cleared-entries : (p : BufferPool) → length (p .starts) ≡ mostSlots → length (p .lengths) ≡ mostSlots
+    → marked p (p .live) (replicate mostSlots 0) (replicate mostSlots 0) (p .serials) (p .callers) (p .given) ≡ withoutEntries p
+cleared-entries p s l = rw (s, l) refl

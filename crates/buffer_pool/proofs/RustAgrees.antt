@@ -26,7 +26,7 @@ use Rattle.buffer_pool.specs.Placing.{Decision, clearable, tailFits, tai
 use Rattle.buffer_pool.specs.Sound.{Ready, InBack, InFront, InAlloc, InMode, Orderly}
 use Rattle.buffer_pool.specs.Rust.{Run, done, with, RustPool, pool, back, system, raw, slotted, used-to, in-bounds, system-frame, system-get-data-owned, prepend-raw-data, move-raw-at-offset, offered, reserve-from-system-memory, reserve_, reset-on, rust-reset, resets-now, rust-reserve}
 use Rattle.buffer_pool.specs.RustMoves.{lessSelfCopies, move-raw-moves, reserve-from-system-memory-moves, offered-moves, reserve-moves, reset-moves, rust-reserve-moves}
-use Rattle.buffer_pool.specs.AsRust.{innerOf, rustAt, rustOf, Mirrors, Leaves, decided, heapPerform, heapOf}
+use Rattle.buffer_pool.specs.AsRust.{Exact, innerOf, rustAt, rustOf, Mirrors, Leaves, decided, heapPerform, heapOf}
 use Rattle.buffer_pool.proofs.Rules.{tail-room, tail-ready, tail-in, head-ready, head-in}
 use Rattle.buffer_pool.proofs.ReserveKept.{back-fits, kept-fit, reset-fit, place-orderly}
 use Rattle.buffer_pool.proofs.Unchanged.{place-overflow}
@@ -176,13 +176,13 @@ module _ (w : ℕ) (r : BufferPool) (m : Memories) (S : Sized r m) (own : ℕ) w
         pool (back 0 0) Back (raw (slotted (innerOf r (m .pool)) (r .live) (replicate w 0) (replicate w 0) 0) (m .pool) 0 l)
         (system (m .overflow) (r .cursor) own) (r .reserved)
 
-    reset-none : ltb (r .cursor) (r .capacity) ≡ true → r .cursor ≡ 0
+    reset-none : Exact w r → ltb (r .cursor) (r .capacity) ≡ true → r .cursor ≡ 0
         → Resets (rust-reset w (at-mode Alloc)) (reset-moves Alloc (at-mode Alloc))
-        (withoutEntries w (placed r Back 0 0 0 0)) [] m
+        (withoutEntries (placed r Back 0 0 0 0)) [] m
     unfolding rust-reset reset-on reset-moves
-    reset-none e c =
+    reset-none X e c =
         let z : ltb 0 (r .cursor) ≡ false = le-ltb 0 (r .cursor) (omega arith) in
-        unmoved-reset _ S (rw (S .0, e, z) (ap (λ (l : ℕ). done (emptied l)) (sym (I .no-len)))) (rw (S .0, e, z) refl)
+        unmoved-reset _ S (rw (X .0, X .1, S .0, e, z) (ap (λ (l : ℕ). done (emptied l)) (sym (I .no-len)))) (rw (S .0, e, z) refl)
 
     -- A's frame goes in
     reset-in : r .cursor < r .capacity → 0 < r .cursor
@@ -230,20 +230,20 @@ module _ (w : ℕ) (r : BufferPool) (m : Memories) (S : Sized r m) (own : ℕ) w
   abbrev resetting-rusts : List Move
   resetting-rusts = pick (resets-now (rustOf r m own)) (reset-moves (r .mode) (rustOf r m own)) []
 
-  reset-agrees : Orderly w r
-      → Resets (pick (resets-now (rustOf r m own)) (rust-reset w (rustOf r m own)) (done (rustOf r m own))) resetting-rusts (reset w r) resetting-moves m
+  reset-agrees : Exact w r → Orderly w r
+      → Resets (pick (resets-now (rustOf r m own)) (rust-reset w (rustOf r m own)) (done (rustOf r m own))) resetting-rusts (reset r) resetting-moves m
   unfolding reset resetOn resetMoves resets-now resets rust-reset reset-on reset-moves
-  reset-agrees O =
+  reset-agrees X O =
       go (resets r) (ltb (r .cursor) (r .capacity)) refl (eqb (r .cursor) 0) refl (r .mode) refl (kept-fit w r O .1)
     where
       go : (a t : Bool) → ltb (r .cursor) (r .capacity) ≡ t → (z : Bool) → eqb (r .cursor) 0 ≡ z
           → (mode : PoolMode) → r .mode ≡ mode → InMode w mode r 0
           → Resets (pick a (rust-reset w (at-mode mode)) (done (at-mode mode))) (pick a (reset-moves mode (at-mode mode)) [])
-          (resetOn a t z mode w r) (resetMoves a t z mode r) m
+          (resetOn a t z mode r) (resetMoves a t z mode r) m
       go false t q z s mode e I = unmoved-reset r S (ap (λ (x : PoolMode). done (at-mode x)) (sym e)) refl
       go true t q z s Back e I = reset-pool (omega (arith, I .fits))
       go true t q z s (Front f) e I = reset-pool (omega (arith, I .fits, I .bytes-within))
-      go true true q true s Alloc e I = reset-none I q (eqb-true (r .cursor) 0 s)
+      go true true q true s Alloc e I = reset-none I X q (eqb-true (r .cursor) 0 s)
       go true true q false s Alloc e I = reset-in I (ltb-true (r .cursor) (r .capacity) q) (omega (arith, eqb-false (r .cursor) 0 s))
       go true false q z s Alloc e I = reset-stays I q
 
@@ -260,12 +260,12 @@ live-left r p h = go (eq-zero-or-pos (r .live))
 abbrev Kept : BufferPool → BufferPool → Type 0
 Kept r q = (q .live ≡ r .live) × (0 < q .«back_len» → q .cursor ≡ 0 → 0 < q .live)
 
-reset-keeps : (w : ℕ) (r : BufferPool) → Ready w r → Kept r (reset w r)
+reset-keeps : (w : ℕ) (r : BufferPool) → Ready w r → Kept r (reset r)
 unfolding reset resetOn
 reset-keeps w r R = go (resets r) refl (ltb (r .cursor) (r .capacity)) refl (eqb (r .cursor) 0) (r .mode)
   where
     go : (a : Bool) → resets r ≡ a → (t : Bool) → ltb (r .cursor) (r .capacity) ≡ t → (z : Bool) (mode : PoolMode)
-        → Kept r (resetOn a t z mode w r)
+        → Kept r (resetOn a t z mode r)
     go false p t q z mode = (refl, λ l e. live-left r p l)
     go true p t q z Back = (refl, λ l e. absurd (omega arith))
     go true p t q z (Front f) = (refl, λ l e. absurd (omega arith))
@@ -276,13 +276,13 @@ reset-keeps w r R = go (resets r) refl (ltb (r .cursor) (r .capacity)) refl (eqb
 
 -- ---- Reset and placing together
 
-module _ (w k : ℕ) (r : BufferPool) (len : ℕ) (O : Orderly w r) (m : Memories) (S : Sized r m) (own : ℕ) where
+module _ (w k : ℕ) (r : BufferPool) (len : ℕ) (X : Exact w r) (O : Orderly w r) (m : Memories) (S : Sized r m) (own : ℕ) where
   abbrev fresh : BufferPool
-  fresh = reset w r
+  fresh = reset r
 
   resetting : Resets (pick (resets-now (rustOf r m own)) (rust-reset w (rustOf r m own)) (done (rustOf r m own)))
       (resetting-rusts w r m S own) fresh (resetting-moves w r m S own) m
-  resetting = reset-agrees w r m S own O
+  resetting = reset-agrees w r m S own X O
 
   abbrev fresh-pool : RustPool
   fresh-pool = rustAt (fresh .mode) fresh (resetting .bytes) (resetting .own) len
@@ -318,29 +318,29 @@ module _ (w k : ℕ) (r : BufferPool) (len : ℕ) (O : Orderly w r) (m : Memorie
 
 -- every reserve of every length on an orderly record: no panic, at most two mode changes (a fourth call of `reserve_` is never
 -- made), and the record, bytes, writable range and count of changes of SPECIFICATION 5 and 6
-pub rust-agrees : (w k : ℕ) (r : BufferPool) (m : Memories) (p : RustPool) (len : ℕ) → Orderly w r → Mirrors r m p
+pub rust-agrees : (w k : ℕ) (r : BufferPool) (m : Memories) (p : RustPool) (len : ℕ) → Exact w r → Orderly w r → Mirrors r m p
     → Leaves (rust-reserve w (suc (suc (suc k))) p len) (decided (place w r len))
     (Mirrors (place w r len .next) (heapPerform (place w r len .moves) m))
-rust-agrees w k r m p len O M =
+rust-agrees w k r m p len X O M =
     let S : Sized r m = (M .pool-size, M .heap-size) in
-    rw (M .is, leads-heap (placing-leads w k r len O m S (M .own))) (placing-leaves w k r len O m S (M .own))
+    rw (M .is, leads-heap (placing-leads w k r len X O m S (M .own))) (placing-leaves w k r len X O m S (M .own))
 
 -- W-203: the moves that a reserve decides on are "the Rust's, in its order, less those to the start where the frame already lies in
 -- that memory"
-pub moves-agree : (w k : ℕ) (r : BufferPool) (m : Memories) (p : RustPool) (len : ℕ) → Orderly w r → Mirrors r m p
+pub moves-agree : (w k : ℕ) (r : BufferPool) (m : Memories) (p : RustPool) (len : ℕ) → Exact w r → Orderly w r → Mirrors r m p
     → place w r len .moves ≡ lessSelfCopies (rust-reserve-moves w (suc (suc (suc k))) p len)
-moves-agree w k r m p len O M = rw (M .is) (placing-leads w k r len O m (M .pool-size, M .heap-size) (M .own) .less)
+moves-agree w k r m p len X O M = rw (M .is) (placing-leads w k r len X O m (M .pool-size, M .heap-size) (M .own) .less)
 
 -- making either list leaves the same bytes, in both lent memories and in those with a `Vec`, whatever they hold
-pub moves-perform : (w k : ℕ) (r : BufferPool) (m : Memories) (p : RustPool) (len : ℕ) → Orderly w r → Mirrors r m p → (x : Memories)
+pub moves-perform : (w k : ℕ) (r : BufferPool) (m : Memories) (p : RustPool) (len : ℕ) → Exact w r → Orderly w r → Mirrors r m p → (x : Memories)
     → let rusts = rust-reserve-moves w (suc (suc (suc k))) p len in
     (perform (place w r len .moves) x ≡ perform rusts x) × (heapPerform (place w r len .moves) x ≡ heapPerform rusts x)
-moves-perform w k r m p len O M x =
+moves-perform w k r m p len X O M x =
     let rusts = rust-reserve-moves w (suc (suc (suc k))) p len in
-    rw (moves-agree w k r m p len O M) (less-performs rusts x, less-heap-performs rusts x)
+    rw (moves-agree w k r m p len X O M) (less-performs rusts x, less-heap-performs rusts x)
 
 -- with a long enough overflow, the same moves made in the lent memories leave the bytes that the Rust leaves
-module _ (w : ℕ) (r : BufferPool) (m : Memories) (len : ℕ) (O : Orderly w r) (S : Sized r (heapOf r m))
+module _ (w : ℕ) (r : BufferPool) (m : Memories) (len : ℕ) (X : Exact w r) (O : Orderly w r) (S : Sized r (heapOf r m))
     (e : length (m .overflow) ≡ r .overflow) (fits : tooLong (place w r len) len ≡ false) where
   abbrev d : Decision
   d = place w r len
@@ -350,10 +350,10 @@ module _ (w : ℕ) (r : BufferPool) (m : Memories) (len : ℕ) (O : Orderly w r)
 
   pub bytes-agree : heapPerform (d .moves) (heapOf r m) ≡ heapOf (d .next) (perform (d .moves) m)
   bytes-agree =
-      lent-bytes r (d .next) m (placing-leads w 0 r len O (heapOf r m) S 0) (omega (arith, e, O .kept-within)) next-within
-      (placing-leaves w 0 r len O (heapOf r m) S 0 .holds .heap-size)
+      lent-bytes r (d .next) m (placing-leads w 0 r len X O (heapOf r m) S 0) (omega (arith, e, O .kept-within)) next-within
+      (placing-leaves w 0 r len X O (heapOf r m) S 0 .holds .heap-size)
 
   pub sizes-agree : (length (perform (d .moves) m .pool) ≡ length (m .pool)) × (length (perform (d .moves) m .overflow) ≡ length (m .overflow))
   sizes-agree =
-      lent-sizes r (d .next) m (placing-leads w 0 r len O (heapOf r m) S 0) (omega (arith, e, O .kept-within)) next-within
-      (placing-leaves w 0 r len O (heapOf r m) S 0 .holds .heap-size)
+      lent-sizes r (d .next) m (placing-leads w 0 r len X O (heapOf r m) S 0) (omega (arith, e, O .kept-within)) next-within
+      (placing-leaves w 0 r len X O (heapOf r m) S 0 .holds .heap-size)

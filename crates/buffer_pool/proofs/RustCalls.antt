@@ -21,7 +21,8 @@ use Rattle.buffer_pool.specs.declared.buffer_pool.Memory.the-variants.{P
 use Rattle.buffer_pool.specs.declared.buffer_pool.Place.{Place}
 use Rattle.buffer_pool.specs.declared.buffer_pool.Answer.the-variants.{Done}
 use Rattle.buffer_pool.specs.declared.buffer_pool.Called.{Called}
-use Rattle.buffer_pool.specs.Record.{byteLimit, callerCount, framed}
+use Rattle.buffer_pool.specs.Record.{cut, mostSlots, byteLimit, callerCount, framed}
+use Rattle.buffer_pool.specs.Soundness.{isCount}
 use Rattle.buffer_pool.specs.Moves.{Memories, memories, Move, Down, perform}
 use Rattle.buffer_pool.specs.Placing.{place, tooLong, isAlloc}
 use Rattle.buffer_pool.specs.Sound.{InMode, InAlloc, Orderly}
@@ -31,13 +32,15 @@ use Rattle.buffer_pool.specs.Steps.{called, refused, frameOf, frame, res
 use Rattle.buffer_pool.specs.Calls.{Outcome, outcome, misfit, guarded, guardedCall, newOn, new, reserve, commit, truncate, copiedOut, take as taken, release, bytesAt, writtenIn, written}
 use Rattle.buffer_pool.specs.Rust.{Run, done, RustPool, InnerMemory, Slice, Pooled, Heap, took, pool, back, system, front-len, in-bounds, raw-data, system-commit, system-frame, system-get-data-owned, system-truncate, commit-raw, get-data-owned-on, memory-get-data-owned, rust-reserve, rust-commit-on, rust-commit, rust-truncate-on, rust-truncate, rust-take-on, rust-take, rust-release, rust-frame-on, rust-frame, rust-new}
 use Rattle.buffer_pool.specs.RustMoves.{lessSelfCopies, rust-reserve-moves}
-use Rattle.buffer_pool.specs.AsRust.{backOf, innerOf, rustAt, rustOf, heapOf, Stands, Leaves, Unrefused, AsRust, replyOf, sliceOf, rustWrittenIn, rustWritten}
+use Rattle.buffer_pool.specs.AsRust.{Exact, backOf, innerOf, rustAt, rustOf, heapOf, Stands, Leaves, Unrefused, AsRust, replyOf, sliceOf, rustWrittenIn, rustWritten}
 use Rattle.buffer_pool.proofs.Soundness.{sound-use}
 use Rattle.buffer_pool.proofs.Unchanged.{place-overflow}
 use Rattle.buffer_pool.proofs.Ranges.{orderly-claim}
 use Rattle.buffer_pool.proofs.HeapMoves.{Leads, leads-down, leads-heap, lent-bytes, lent-sizes}
 use Rattle.buffer_pool.proofs.RustLayers.{Sized}
 use Rattle.buffer_pool.proofs.Named.{names-use}
+use Rattle.buffer_pool.proofs.Parts.{count-bounds}
+use Rattle.buffer_pool.proofs.Cut.{zeros-cut}
 use Rattle.buffer_pool.proofs.RustAgrees.{rust-agrees, moves-agree, bytes-agree, sizes-agree}
 
 -- what a reserve of ours leaves: is it refused with 4?
@@ -323,36 +326,41 @@ module _ {w : ℕ} {r : BufferPool} {m : Memories} {p : RustPool} (O : Orderly w
 
   -- ---- Reserve
 
-  pub reserve-agrees : (k len : ℕ) → let o = reserving w r m (tooLong (place w r len) len) len in
+  pub reserve-agrees : Exact w r → (k len : ℕ) → let o = reserving w r m (tooLong (place w r len) len) len in
       refusal (o .call .answer) ≡ 0 → AsRust (rust-reserve w (suc (suc (suc k))) p len) (replyOf (values (o .call .answer))) o
   unfolding reserveOn refusal
-  reserve-agrees k len = go (tooLong (place w r len) len) refl
+  reserve-agrees X k len = go (tooLong (place w r len) len) refl
     where
       go : (t : Bool) → tooLong (place w r len) len ≡ t → refusal (reserving w r m t len .call .answer) ≡ 0
           → AsRust (rust-reserve w (suc (suc (suc k))) p len) (replyOf (values (reserving w r m t len .call .answer))) (reserving w r m t len)
       go true e u = absurd (omega (arith, u))
       go false e u =
           let S : Sized r (heapOf r m) = (pool-size, T .mirrors .heap-size) in
-          let G = rust-agrees w k r (heapOf r m) p len O (T .mirrors) in
+          let G = rust-agrees w k r (heapOf r m) p len X O (T .mirrors) in
           record {
             left = G .left;
             run-is = G .run-is;
             holds =
                 record {
-                  mirrors = rw (← bytes-agree w r m len O S (T .overflow-size) e) (G .holds);
-                  overflow-size = sizes-agree w r m len O S (T .overflow-size) e .1 ∙ T .overflow-size ∙ sym (place-overflow w r len);
+                  mirrors = rw (← bytes-agree w r m len X O S (T .overflow-size) e) (G .holds);
+                  overflow-size = sizes-agree w r m len X O S (T .overflow-size) e .1 ∙ T .overflow-size ∙ sym (place-overflow w r len);
                 };
           }
 
 -- ---- The calls of specs/Calls.antt
 
-pub new-as-rust : (w : ℕ) (m : Memories) → Unrefused (new w m) → Stands (new w m .call .pool) (new w m .memory) (rust-new w (length (m .pool)))
+pub new-as-rust : (w : ℕ) (m : Memories) → Unrefused (new w m)
+    → Stands (cut w (new w m .call .pool)) (new w m .memory) (rust-new w (length (m .pool)))
 unfolding new refusal rust-new
-new-as-rust w m = go (ltb byteLimit (length (m .pool)) || ltb byteLimit (length (m .overflow)))
+new-as-rust w m = go (isCount w) refl (ltb byteLimit (length (m .pool)) || ltb byteLimit (length (m .overflow)))
   where
-    go : (t : Bool) → Unrefused (newOn t w m) → Stands (newOn t w m .call .pool) (newOn t w m .memory) (rust-new w (length (m .pool)))
-    go true u = absurd (omega (arith, u))
-    go false u = stands (length-replicate (length (m .pool)) 0, (refl, omega arith)) 0 refl (λ e. refl)
+    go : (i : Bool) → isCount w ≡ i → (t : Bool) → Unrefused (newOn i t w m)
+        → Stands (cut w (newOn i t w m .call .pool)) (newOn i t w m .memory) (rust-new w (length (m .pool)))
+    go false e t u = absurd (omega (arith, u))
+    go true e true u = absurd (omega (arith, u))
+    go true e false u =
+        rw (zeros-cut w mostSlots (count-bounds w e .1))
+        (stands (length-replicate (length (m .pool)) 0, (refl, omega arith)) 0 refl (λ e. refl))
 
 worked : (w : ℕ) (r : BufferPool) (m : Memories) (destination : List ℕ) (o : Outcome) → Unrefused (guardedCall w r m destination o)
     → Works numberOf w r (guardedCall w r m destination o) o
@@ -360,26 +368,26 @@ unfolding refusal
 worked w r m destination o = unguarded numberOf (λ n. outcome (refused r n) m destination) (λ n. refl) w r m o
 
 module _ (w : ℕ) (r : BufferPool) (m : Memories) (p : RustPool) (T : Stands r m p) where
-  pub reserve-as-rust : (k len : ℕ) → let o = reserve w r m len in
+  pub reserve-as-rust : (Orderly w r → Exact w r) → (k len : ℕ) → let o = reserve w r m len in
       Unrefused o → AsRust (rust-reserve w (suc (suc (suc k))) p len) (replyOf (values (o .call .answer))) o
   unfolding reserve reserveStep
-  reserve-as-rust k len u =
+  reserve-as-rust X k len u =
       let W = worked w r m [] (reserving w r m (tooLong (place w r len) len) len) u in
       subst (λ (o : Outcome). AsRust (rust-reserve w (suc (suc (suc k))) p len) (replyOf (values (o .call .answer))) o) (W .is)
-      (reserve-agrees (W .orderly) T k len (W .unrefused))
+      (reserve-agrees (W .orderly) T (X (W .orderly)) k len (W .unrefused))
 
   -- W-203, what an unrefused reserve makes: the Rust's moves less the self copies
-  pub reserve-makes : (k len : ℕ) → Unrefused (reserve w r m len)
+  pub reserve-makes : (Orderly w r → Exact w r) → (k len : ℕ) → Unrefused (reserve w r m len)
       → reserve w r m len .memory ≡ perform (lessSelfCopies (rust-reserve-moves w (suc (suc (suc k))) p len)) m
   unfolding reserve reserveStep reserveOn refusal
-  reserve-makes k len u =
+  reserve-makes X k len u =
       let W = worked w r m [] (reserving w r m (tooLong (place w r len) len) len) u in
       ap (λ (x : Outcome). x .memory) (sym (W .is)) ∙ go (W .orderly) (tooLong (place w r len) len) (W .unrefused)
     where
       go : Orderly w r → (t : Bool) → Unrefused (reserving w r m t len)
           → reserving w r m t len .memory ≡ perform (lessSelfCopies (rust-reserve-moves w (suc (suc (suc k))) p len)) m
       go O true e = absurd (omega (arith, e))
-      go O false e = ap (λ (l : List Move). perform l m) (moves-agree w k r (heapOf r m) p len O (T .mirrors))
+      go O false e = ap (λ (l : List Move). perform l m) (moves-agree w k r (heapOf r m) p len (X O) O (T .mirrors))
 
   pub commit-as-rust : (n : ℕ) → Unrefused (commit w r m n) → AsRust (rust-commit p n) (λ q. q) (commit w r m n)
   unfolding commit

@@ -5,19 +5,29 @@ use native.Mathlib.Omega.{arith}
 use lib.Count.{trailingZeros, trailing-of-zero}
 use Rattle.laws.specs.Live.{lastLive}
 use Rattle.laws.proofs.Slots.{last-zeros, zeros-below}
+use Rattle.laws.proofs.Words.{trailing-wide}
 
-pub no-front : (live back : ℕ) → back ≡ 0 → 0 ≡ lastLive 8 live back
-unfolding lastLive
-no-front live back z = rw z refl
+module _ (w : ℕ) where
+  pub no-front : (live back : ℕ) → back ≡ 0 → 0 ≡ lastLive w live back
+  unfolding lastLive
+  no-front live back z = rw z refl
 
-module _ (live back : ℕ) (h : back ≤ 8) (f : live < 256) where
-  pub front-free : live / 2 ^ (8 - back) ≡ 0 → 0 ≡ lastLive 8 live back
-  front-free z =
-      omega (arith, last-zeros 8 live back h f, ap (trailingZeros 8) z ∙ trailing-of-zero 8)
+  module _ (live back : ℕ) (h : back ≤ w) (f : live < 2 ^ w) where
+    pub front-free : live / 2 ^ (w - back) ≡ 0 → 0 ≡ lastLive w live back
+    front-free z =
+        omega (arith, last-zeros w live back h f, ap (trailingZeros w) z ∙ trailing-of-zero w)
 
-  module _ (some : live / 2 ^ (8 - back) ≡ 0 → ⊥) (t : ℕ) (e : t ≡ trailingZeros 8 (live / 2 ^ (8 - back))) where
-    pub zeros-within : t ≤ back
-    zeros-within = omega (arith, zeros-below 8 live back h f (omega (arith, some)))
+    module _ (some : live / 2 ^ (w - back) ≡ 0 → ⊥) (t : ℕ) (e : t ≡ trailingZeros w (live / 2 ^ (w - back))) where
+      pub zeros-within : t ≤ back
+      zeros-within = omega (arith, zeros-below w live back h f (omega (arith, some)))
 
-    pub front-last : back - t ≡ lastLive 8 live back
-    front-last = omega (arith, last-zeros 8 live back h f)
+      pub front-last : back - t ≡ lastLive w live back
+      front-last = omega (arith, last-zeros w live back h f)
+
+  -- the zeros at the bottom of a word of 16 bits, cut at w
+  module _ (live : ℕ) (m : w ≤ 16) where
+    pub zeros-past : (z : ℕ) → z ≡ trailingZeros 16 live → w < z → w ≡ trailingZeros w live
+    zeros-past z e h = omega (arith, trailing-wide 16 w live m)
+
+    pub zeros-are : (z : ℕ) → z ≡ trailingZeros 16 live → z ≤ w → z ≡ trailingZeros w live
+    zeros-are z e h = omega (arith, trailing-wide 16 w live m)

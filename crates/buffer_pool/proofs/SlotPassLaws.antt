@@ -14,37 +14,40 @@ use Rattle.buffer_pool.specs.declared.sound.Bounds.{Bounds}
 use Rattle.buffer_pool.specs.declared.sound.Passed.{Passed}
 use Rattle.buffer_pool.specs.SlotPass.{slotSound, slotPass, passes}
 
-module _ (starts lengths : List ℕ) (live : ℕ) (b : Bounds) where
-  module _ (i end : ℕ) (l : Bool) (e : l ≡ liveAt 8 live (i + 1)) where
-    pub passed-free : not l ≡ true → record { sound = true; end = end } ≡ slotPass starts lengths live b i end
+module _ (w : ℕ) (starts lengths : List ℕ) (live : ℕ) (b : Bounds) where
+  module _ (i end : ℕ) (l : Bool) (e : l ≡ liveAt w live (i + 1)) where
+    pub passed-free : not l ≡ true → record { sound = true; end = end } ≡ slotPass w starts lengths live b i end
     unfolding slotPass
     passed-free h = rw (← add-one i, ← e, not-true l h)
 
     pub passed-live : not l ≡ false → (start len : ℕ) → start ≡ getD starts i 0 → len ≡ getD lengths i 0
-        → (t : Bool) → t ≡ slotSound b (i + 1) start (start + len) end → record { sound = t; end = start + len } ≡ slotPass starts lengths live b i end
+        → (t : Bool) → t ≡ slotSound b (i + 1) start (start + len) end → record { sound = t; end = start + len } ≡ slotPass w starts lengths live b i end
     unfolding slotPass
     passed-live h start len s n t f = rw (← add-one i, ← e, not-false l h, f, s, n)
 
-  -- the loop: what is left to pass decides
-  module _ (i end last : ℕ) (l : last ≤ 8) (h : i < last) (a : passes starts lengths live b 8 0 0 ≡ passes starts lengths live b (8 - i) i end) (s : Passed)
-      (e : s ≡ slotPass starts lengths live b i end) where
-    turn : passes starts lengths live b 8 0 0 ≡ passes starts lengths live b (suc (8 - (i + 1))) i end
-    turn = a ∙ ap (λ (n : ℕ). passes starts lengths live b n i end) (omega arith)
+  pub passes-start : passes w starts lengths live b w 0 0 ≡ passes w starts lengths live b (w - 0) 0 0
+  passes-start = ap (λ (n : ℕ). passes w starts lengths live b n 0 0) (omega arith)
 
-    pub pass-fails : not (s .sound) ≡ true → false ≡ passes starts lengths live b 8 0 0
+  -- the loop: what is left to pass decides
+  module _ (i end last : ℕ) (l : last ≤ w) (h : i < last) (a : passes w starts lengths live b w 0 0 ≡ passes w starts lengths live b (w - i) i end) (s : Passed)
+      (e : s ≡ slotPass w starts lengths live b i end) where
+    turn : passes w starts lengths live b w 0 0 ≡ passes w starts lengths live b (suc (w - (i + 1))) i end
+    turn = a ∙ ap (λ (n : ℕ). passes w starts lengths live b n i end) (omega arith)
+
+    pub pass-fails : not (s .sound) ≡ true → false ≡ passes w starts lengths live b w 0 0
     unfolding passes
     pass-fails t = sym (turn ∙ rw (← e, not-true (s .sound) t))
 
-    pub passes-more : not (s .sound) ≡ false → passes starts lengths live b 8 0 0 ≡ passes starts lengths live b (8 - (i + 1)) (i + 1) (s .end)
+    pub passes-more : not (s .sound) ≡ false → passes w starts lengths live b w 0 0 ≡ passes w starts lengths live b (w - (i + 1)) (i + 1) (s .end)
     unfolding passes
     passes-more t = turn ∙ rw (← e, not-false (s .sound) t, add-one i)
 
   -- free slots pass
-  free-pass : (n i end : ℕ) → ((q : ℕ) → i < q → q ≤ i + n → liveAt 8 live q ≡ false) → passes starts lengths live b n i end ≡ true
+  free-pass : (n i end : ℕ) → ((q : ℕ) → i < q → q ≤ i + n → liveAt w live q ≡ false) → passes w starts lengths live b n i end ≡ true
   unfolding passes slotPass
   free-pass zero i end f = refl
   free-pass (suc n) i end f = rw (f (suc i) (omega arith) (omega arith)) (free-pass n (suc i) end (λ q a m. f q (omega arith) (omega arith)))
 
-  module _ (h : live < 2 ^ 8) (last z : ℕ) (e : z ≡ trailingZeros 8 live) (g : last ≡ 8 - z) where
-    pub passes-all : (i end : ℕ) → i ≤ last → last ≤ i → passes starts lengths live b 8 0 0 ≡ passes starts lengths live b (8 - i) i end → true ≡ passes starts lengths live b 8 0 0
-    passes-all i end l k a = sym (a ∙ free-pass (8 - i) i end (λ q u m. none-above 8 live q h (omega (arith, e, g, l, k, u)) (omega (arith, g, l))))
+  module _ (h : live < 2 ^ w) (last z : ℕ) (e : z ≡ trailingZeros w live) (g : last ≡ w - z) where
+    pub passes-all : (i end : ℕ) → i ≤ last → last ≤ i → passes w starts lengths live b w 0 0 ≡ passes w starts lengths live b (w - i) i end → true ≡ passes w starts lengths live b w 0 0
+    passes-all i end l k a = sym (a ∙ free-pass (w - i) i end (λ q u m. none-above w live q h (omega (arith, e, g, l, k, u)) (omega (arith, g, l))))

@@ -9,7 +9,7 @@ use Rattle.buffer_pool.specs.declared.slice.Handle.{Handle}
 use Rattle.buffer_pool.specs.declared.buffer_pool.BufferPool.{BufferPool}
 use Rattle.buffer_pool.specs.declared.buffer_pool.Called.{Called}
 use Rattle.buffer_pool.specs.Record.{byteLimit, newRecord}
-use Rattle.buffer_pool.specs.Soundness.{sound}
+use Rattle.buffer_pool.specs.Soundness.{isCount, sound}
 use Rattle.buffer_pool.specs.Sound.{Orderly}
 use Rattle.buffer_pool.specs.Steps.{reserveStep, commitStep, truncateStep, takeStep, releaseStep}
 use Rattle.buffer_pool.proofs.Soundness.{sound-use, sound-make}
@@ -20,7 +20,7 @@ use Rattle.buffer_pool.proofs.Ranges.{Inside, Separate, Claimable, orde
 
 -- ---- The invariant
 
-pub sound-new : (w capacity overflow : ℕ) → 0 < w → capacity ≤ byteLimit → overflow ≤ byteLimit
+pub sound-new : (w capacity overflow : ℕ) → isCount w ≡ true → capacity ≤ byteLimit → overflow ≤ byteLimit
     → sound w (newRecord w capacity overflow) ≡ true
 sound-new w capacity overflow h c o =
     sound-make w _ (record { capacity-limit = c; overflow-limit = o; orderly = new-orderly w capacity overflow h })
@@ -48,7 +48,7 @@ step-orderly w r (Truncate n) S = truncate-kept w r n S
 step-orderly w r (Take caller destination) S = take-kept w r caller destination S
 step-orderly w r (Release h) S = release-kept w r h S
 
--- the lengths of the two memories stay
+-- the lengths of the two memories stay, and the slot count
 pub step-sizes : (w : ℕ) (r : BufferPool) (s : Step) → SameSizes r (step w r s .pool)
 step-sizes w r (Reserve len) = reserve-sizes r w len
 step-sizes w r (Commit n) = commit-sizes r n

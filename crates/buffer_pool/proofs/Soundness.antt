@@ -18,7 +18,7 @@ use Rattle.buffer_pool.specs.declared.buffer_pool.PoolFront.{PoolFront}
 use Rattle.buffer_pool.specs.declared.buffer_pool.PoolMode.{PoolMode}
 use Rattle.buffer_pool.specs.declared.buffer_pool.PoolMode.the-variants.{Back, Front, Alloc}
 use Rattle.buffer_pool.specs.Record.{byteLimit, callerCount}
-use Rattle.buffer_pool.specs.Soundness.{shaped, limited, counted, rising, framedWithin, backNumbers, backSound, besides, frontNumbers, frontSound, allocSound, modeSound, orderly, sound}
+use Rattle.buffer_pool.specs.Soundness.{isCount, shaped, limited, counted, rising, framedWithin, backNumbers, backSound, besides, frontNumbers, frontSound, allocSound, modeSound, orderly, sound}
 use Rattle.buffer_pool.specs.Sound.{Held, InBack, own, above, InFront, InAlloc, InMode, Orderly, Sound}
 use Rattle.buffer_pool.proofs.Order.{startOf, endOf, Beside}
 
@@ -266,7 +266,9 @@ module _ (w : ℕ) (r : BufferPool) where
   unfolding orderly shaped counted
   orderly-use e =
       let a = both-true (shaped w r) _ e in
-      let live-fits = ltb-and (r .live) (2 ^ w) (a .0) in
+      let count-is = eqb-and (r .slots) w (a .0) in
+      let is-count = both-true (isCount w) _ (count-is .1) in
+      let live-fits = ltb-and (r .live) (2 ^ w) (is-count .1) in
       let starts-w = leb-and w (length (r .starts)) (live-fits .1) in
       let lengths-w = leb-and w (length (r .lengths)) (starts-w .1) in
       let serials-w = leb-and w (length (r .serials)) (lengths-w .1) in
@@ -280,6 +282,8 @@ module _ (w : ℕ) (r : BufferPool) where
       record {
         ready =
             record {
+              count-is = count-is .0;
+              is-count = is-count .0;
               slots =
                   record {
                     live-fits = live-fits .0;
@@ -312,8 +316,9 @@ module _ (w : ℕ) (r : BufferPool) where
       let L = R .slots in
       let F = R .serials-fit in
       both
+      (both (eq-eqb _ _ (R .count-is)) (both (R .is-count)
       (both (lt-ltb _ _ (L .live-fits)) (both (le-leb _ _ (L .starts-w)) (both (le-leb _ _ (L .lengths-w))
-      (both (le-leb _ _ (F .serials-w)) (both (le-leb _ _ (F .callers-w)) (le-leb _ _ (F .given-all)))))))
+      (both (le-leb _ _ (F .serials-w)) (both (le-leb _ _ (F .callers-w)) (le-leb _ _ (F .given-all)))))))))
       (both
       (both (le-leb _ _ (S .kept-within)) (both (lt-ltb _ _ (R .start-below)) (both (le-leb _ _ (R .back-within)) (none-make (R .none)))))
       (both

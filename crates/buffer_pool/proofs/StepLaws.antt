@@ -21,11 +21,12 @@ use Rattle.buffer_pool.specs.declared.buffer_pool.Memory.the-variants.{P
 use Rattle.buffer_pool.specs.declared.buffer_pool.Place.{Place}
 use Rattle.buffer_pool.specs.declared.buffer_pool.Answer.the-variants.{Done, Framed, Taken, Copied}
 use Rattle.buffer_pool.specs.declared.buffer_pool.Called.{Called}
-use Rattle.buffer_pool.specs.Record.{callerCount, startAt, front, framed, withLive}
+use Rattle.buffer_pool.specs.Record.{mostSlots, callerCount, startAt, front, framed, withLive}
 use Rattle.buffer_pool.specs.Placing.{isAlloc}
 use Rattle.buffer_pool.specs.Sound.{Orderly, InBack, InFront, InAlloc, InMode}
 use Rattle.buffer_pool.specs.Values.{refusal}
 use Rattle.buffer_pool.specs.Steps.{called, refused, at, frame, frameOf, resized, reframed, commitStep, truncateStep, givenTo, handedOut, pooled, copiedOutOn, takeOn, takeStep, mostSerials, names, freed, releaseStep}
+use Rattle.buffer_pool.proofs.Parts.{ready-worded}
 
 -- ---- The frame, by the mode
 
@@ -83,24 +84,24 @@ commit-own p n = go (ltb (p .reserved) n)
 module _ (p : BufferPool) (caller destination : ℕ) where
   -- a take's number, by its tests
   abbrev takeNumber : Bool → Bool → Bool → PoolMode → ℕ
-  takeNumber empty long spent mode = refusal (takeOn false empty long spent mode 8 caller p .answer)
+  takeNumber empty long spent mode = refusal (takeOn false empty long spent mode (p .slots) caller p .answer)
 
-  pub take-twelve : 4 ≤ caller → 12 ≡ refusal (takeStep 8 p caller destination .answer)
+  pub take-twelve : 4 ≤ caller → 12 ≡ refusal (takeStep (p .slots) p caller destination .answer)
   unfolding takeStep takeOn refusal
   take-twelve h = rw (le-leb callerCount caller h)
 
   module _ (b : caller < 4) (f : Place) (e : f ≡ frameOf (p .mode) p) where
-    pub take-empty-zero : f .length ≡ 0 → 0 ≡ refusal (takeStep 8 p caller destination .answer)
+    pub take-empty-zero : f .length ≡ 0 → 0 ≡ refusal (takeStep (p .slots) p caller destination .answer)
     unfolding takeStep takeOn refusal
     take-empty-zero z = rw (← e, lt-leb callerCount caller b, eq-eqb (f .length) 0 z)
 
     module _ (s : f .length ≡ 0 → ⊥) (a : Bool) (i : a ≡ isAlloc (p .mode)) where
       some : (long spent : Bool) → ltb destination (f .length) ≡ long → leb mostSerials (givenTo p caller) ≡ spent
-          → refusal (takeStep 8 p caller destination .answer) ≡ takeNumber false long spent (p .mode)
+          → refusal (takeStep (p .slots) p caller destination .answer) ≡ takeNumber false long spent (p .mode)
       unfolding takeStep
       some long spent l t = rw (← e, lt-leb callerCount caller b, ne-eqb (f .length) 0 s, l, t)
 
-      pub take-six : a ≡ true → destination < f .length → 6 ≡ refusal (takeStep 8 p caller destination .answer)
+      pub take-six : a ≡ true → destination < f .length → 6 ≡ refusal (takeStep (p .slots) p caller destination .answer)
       unfolding takeOn refusal
       take-six t h = go (p .mode) (sym i ∙ t) ∙ sym (some true _ (lt-ltb destination (f .length) h) refl)
         where
@@ -109,7 +110,7 @@ module _ (p : BufferPool) (caller destination : ℕ) where
           go (Front g) q = absurd (no-true q)
           go Alloc q = refl
 
-      pub take-copied-zero : a ≡ true → f .length ≤ destination → 0 ≡ refusal (takeStep 8 p caller destination .answer)
+      pub take-copied-zero : a ≡ true → f .length ≤ destination → 0 ≡ refusal (takeStep (p .slots) p caller destination .answer)
       unfolding takeOn refusal
       take-copied-zero t h = go (p .mode) (sym i ∙ t) ∙ sym (some false _ (le-ltb destination (f .length) h) refl)
         where
@@ -118,7 +119,7 @@ module _ (p : BufferPool) (caller destination : ℕ) where
           go (Front g) q = absurd (no-true q)
           go Alloc q = refl
 
-      pub take-eight : a ≡ false → (last : ℕ) → last ≡ givenTo p caller → 4294967295 ≤ last → 8 ≡ refusal (takeStep 8 p caller destination .answer)
+      pub take-eight : a ≡ false → (last : ℕ) → last ≡ givenTo p caller → 4294967295 ≤ last → 8 ≡ refusal (takeStep (p .slots) p caller destination .answer)
       unfolding takeOn refusal
       take-eight t last g h = go (p .mode) (sym i ∙ t) ∙ sym (some _ true refl (ap (leb mostSerials) (sym g) ∙ le-leb mostSerials last h))
         where
@@ -127,7 +128,7 @@ module _ (p : BufferPool) (caller destination : ℕ) where
           go (Front g) q = refl
           go Alloc q = absurd (no-true (sym q))
 
-      pub take-pooled-zero : a ≡ false → (last : ℕ) → last ≡ givenTo p caller → last < 4294967295 → 0 ≡ refusal (takeStep 8 p caller destination .answer)
+      pub take-pooled-zero : a ≡ false → (last : ℕ) → last ≡ givenTo p caller → last < 4294967295 → 0 ≡ refusal (takeStep (p .slots) p caller destination .answer)
       unfolding takeOn refusal
       take-pooled-zero t last g h = go (p .mode) (sym i ∙ t) ∙ sym (some _ false refl (ap (leb mostSerials) (sym g) ∙ lt-leb mostSerials last h))
         where
@@ -136,13 +137,13 @@ module _ (p : BufferPool) (caller destination : ℕ) where
           go (Front g) q = refl
           go Alloc q = absurd (no-true (sym q))
 
-  pub take-own : (refusal (takeStep 8 p caller destination .answer) ≡ 0 → ⊥) → takeStep 8 p caller destination ≡ refused p (refusal (takeStep 8 p caller destination .answer))
+  pub take-own : (refusal (takeStep (p .slots) p caller destination .answer) ≡ 0 → ⊥) → takeStep (p .slots) p caller destination ≡ refused p (refusal (takeStep (p .slots) p caller destination .answer))
   unfolding takeStep takeOn refusal
   take-own =
       go (leb callerCount caller) (eqb (frameOf (p .mode) p .length) 0) (ltb destination (frameOf (p .mode) p .length))
       (leb mostSerials (givenTo p caller)) (p .mode)
     where
-      go : (none empty long spent : Bool) (mode : PoolMode) → let c = takeOn none empty long spent mode 8 caller p in
+      go : (none empty long spent : Bool) (mode : PoolMode) → let c = takeOn none empty long spent mode (p .slots) caller p in
           (refusal (c .answer) ≡ 0 → ⊥) → c ≡ refused p (refusal (c .answer))
       go true empty long spent mode k = refl
       go false true long spent mode k = absurd (k refl)
@@ -154,20 +155,20 @@ module _ (p : BufferPool) (caller destination : ℕ) where
       go false false false spent Alloc k = absurd (k refl)
 
 module _ (p : BufferPool) (h : Handle) where
-  pub release-seven : (b : Bool) → b ≡ names 8 p h → not b ≡ true → 7 ≡ refusal (releaseStep 8 p h .answer)
+  pub release-seven : (b : Bool) → b ≡ names (p .slots) p h → not b ≡ true → 7 ≡ refusal (releaseStep (p .slots) p h .answer)
   unfolding releaseStep refusal
   release-seven b e t = rw (← e, not-true b t)
 
-  pub release-zero : (b : Bool) → b ≡ names 8 p h → not b ≡ false → 0 ≡ refusal (releaseStep 8 p h .answer)
+  pub release-zero : (b : Bool) → b ≡ names (p .slots) p h → not b ≡ false → 0 ≡ refusal (releaseStep (p .slots) p h .answer)
   unfolding releaseStep refusal
   release-zero b e t = rw (← e, not-false b t)
 
   abbrev done : Called
-  done = called (freed 8 p (h .slot)) Done
+  done = called (freed (p .slots) p (h .slot)) Done
 
-  pub release-own : (refusal (releaseStep 8 p h .answer) ≡ 0 → ⊥) → releaseStep 8 p h ≡ refused p (refusal (releaseStep 8 p h .answer))
+  pub release-own : (refusal (releaseStep (p .slots) p h .answer) ≡ 0 → ⊥) → releaseStep (p .slots) p h ≡ refused p (refusal (releaseStep (p .slots) p h .answer))
   unfolding releaseStep refusal
-  release-own = go (names 8 p h)
+  release-own = go (names (p .slots) p h)
     where
       go : (b : Bool) → (refusal (pick b done (refused p 7) .answer) ≡ 0 → ⊥) → pick b done (refused p 7) ≡ refused p (refusal (pick b done (refused p 7) .answer))
       go true k = absurd (k refl)
@@ -176,13 +177,13 @@ module _ (p : BufferPool) (h : Handle) where
 -- ---- Commit
 
 -- frame and reservation end within the pool or the kept bytes, so their sum is a 64-bit number
-frame-sum : (p : BufferPool) (mode : PoolMode) → InMode 8 mode p (p .reserved) → (bound : ℕ) → p .capacity ≤ bound → p .kept ≤ bound
+frame-sum : (p : BufferPool) (mode : PoolMode) → InMode (p .slots) mode p (p .reserved) → (bound : ℕ) → p .capacity ≤ bound → p .kept ≤ bound
     → frameOf mode p .length + p .reserved ≤ bound
 frame-sum p Back I bound c k = omega (arith, I .fits)
 frame-sum p (Front f) I bound c k = omega (arith, I .fits, I .bytes-within)
 frame-sum p Alloc I bound c k = omega (arith, I .fits)
 
-pub commit-fits : (p : BufferPool) (n : ℕ) → n ≤ p .reserved → (f : Place) → f ≡ frameOf (p .mode) p → Orderly 8 p → Fits w64 (p .capacity) → Fits w64 (p .kept) → Fits w64 (f .length + n)
+pub commit-fits : (p : BufferPool) (n : ℕ) → n ≤ p .reserved → (f : Place) → f ≡ frameOf (p .mode) p → Orderly (p .slots) p → Fits w64 (p .capacity) → Fits w64 (p .kept) → Fits w64 (f .length + n)
 commit-fits p n h f i O a b =
     record { fits = rw i (omega (arith, a .fits, b .fits, frame-sum p (p .mode) (O .in-mode) 18446744073709551615 (omega (arith, a .fits)) (omega (arith, b .fits)))) }
 
@@ -209,12 +210,16 @@ module _ (p : BufferPool) (n : ℕ) (c : Called) (f : Place) (i : f ≡ frameOf 
 
 -- ---- Take
 
-pub handed-out : (p : BufferPool) (caller : ℕ) (mode : PoolMode) (n live : ℕ) → live ≡ claimed 8 (p .live) (p .used + 1)
+pub few-slots : (p : BufferPool) → Orderly (p .slots) p → p .slots ≤ mostSlots
+few-slots p O = ready-worded (p .slots) p (O .ready) .most
+
+pub handed-out : (p : BufferPool) (caller : ℕ) (mode : PoolMode) (n live : ℕ) → live ≡ claimed (p .slots) (p .live) (p .used + 1)
     → (last : ℕ) → last ≡ givenTo p caller
     → record {
       capacity = p .capacity;
       overflow = p .overflow;
       live = live;
+      slots = p .slots;
       starts = set (p .starts) (p .used) (p .«raw_offset»);
       lengths = set (p .lengths) (p .used) (p .«raw_len»);
       serials = set (p .serials) (p .used) (last + 1);
@@ -229,15 +234,15 @@ pub handed-out : (p : BufferPool) (caller : ℕ) (mode : PoolMode) (n live : ℕ
       kept = p .kept;
       cursor = p .cursor;
       reserved = 0;
-    } ≡ handedOut 8 caller p mode n
+    } ≡ handedOut (p .slots) caller p mode n
 handed-out p caller mode n live e last f = rw (e, f, add-one (p .used), add-one (givenTo p caller))
 
 module _ (p : BufferPool) (caller : ℕ) (mode : PoolMode) (n last : ℕ) (f : last ≡ givenTo p caller) where
   pub serials-spent : 4294967295 ≤ last → (c : Called) → c ≡ refused p 8
-      → c ≡ pooled (leb 4294967295 (givenTo p caller)) 8 caller p mode n
+      → c ≡ pooled (leb 4294967295 (givenTo p caller)) (p .slots) caller p mode n
   serials-spent h c e = e ∙ rw (← f, le-leb 4294967295 last h)
 
-  pub taken-pooled : last < 4294967295 → (q : BufferPool) → q ≡ handedOut 8 caller p mode n
+  pub taken-pooled : last < 4294967295 → (q : BufferPool) → q ≡ handedOut (p .slots) caller p mode n
       → record {
         pool = q;
         answer =
@@ -249,7 +254,7 @@ module _ (p : BufferPool) (caller : ℕ) (mode : PoolMode) (n last : ℕ) (f : l
               serial = last + 1;
               caller = caller;
             });
-      } ≡ pooled (leb 4294967295 (givenTo p caller)) 8 caller p mode n
+      } ≡ pooled (leb 4294967295 (givenTo p caller)) (p .slots) caller p mode n
   taken-pooled h q e = rw (lt-leb 4294967295 (givenTo p caller) (rw (← f) h), f, e, add-one (p .used), add-one (givenTo p caller))
 
 module _ (p : BufferPool) (destination : ℕ) where
@@ -261,15 +266,15 @@ module _ (p : BufferPool) (destination : ℕ) where
   taken-copied h q e = rw (le-ltb destination (p .cursor) h, e)
 
 -- what an orderly record knows in each mode
-module _ (p : BufferPool) (O : Orderly 8 p) where
-  in-back : p .mode ≡ Back → InBack 8 p (p .reserved)
-  in-back m = subst (λ (x : PoolMode). InMode 8 x p (p .reserved)) m (O .in-mode)
+module _ (p : BufferPool) (O : Orderly (p .slots) p) where
+  in-back : p .mode ≡ Back → InBack (p .slots) p (p .reserved)
+  in-back m = subst (λ (x : PoolMode). InMode (p .slots) x p (p .reserved)) m (O .in-mode)
 
-  in-front : (g : PoolFront) → p .mode ≡ Front g → InFront 8 p g (p .reserved)
-  in-front g m = subst (λ (x : PoolMode). InMode 8 x p (p .reserved)) m (O .in-mode)
+  in-front : (g : PoolFront) → p .mode ≡ Front g → InFront (p .slots) p g (p .reserved)
+  in-front g m = subst (λ (x : PoolMode). InMode (p .slots) x p (p .reserved)) m (O .in-mode)
 
   pub alloc-kept : p .mode ≡ Alloc → p .cursor ≤ p .kept
-  alloc-kept m = let I : InAlloc p (p .reserved) = subst (λ (x : PoolMode). InMode 8 x p (p .reserved)) m (O .in-mode) in omega (arith, I .fits)
+  alloc-kept m = let I : InAlloc p (p .reserved) = subst (λ (x : PoolMode). InMode (p .slots) x p (p .reserved)) m (O .in-mode) in omega (arith, I .fits)
 
   pub back-used : p .mode ≡ Back → p .«back_start» ≤ p .used + 1
   back-used m = omega (arith, in-back m .used-is)
@@ -285,131 +290,131 @@ module _ (p : BufferPool) (O : Orderly 8 p) where
     length-as : (mode : PoolMode) → p .mode ≡ mode → f .length ≡ frameOf mode p .length
     length-as mode m = ap (λ (x : Place). x .length) i ∙ ap (λ (x : PoolMode). frameOf x p .length) m
 
-    pub back-slot : p .mode ≡ Back → p .used < 8
+    pub back-slot : p .mode ≡ Back → p .used < p .slots
     back-slot m = omega (arith, in-back m .used-is, in-back m .slot (omega (arith, length-as Back m, n)))
 
-    pub front-slot : (g : PoolFront) → p .mode ≡ Front g → p .used < 8
+    pub front-slot : (g : PoolFront) → p .mode ≡ Front g → p .used < p .slots
     front-slot g m =
         omega (arith, in-front g m .used-is, in-front g m .slot (omega (arith, length-as (Front g) m, n)), in-front g m .front-within, O .ready .start-below)
 
 -- a count of slots plus one is a 64-bit number
-pub slot-fits : (used : ℕ) → used < 8 → Fits w64 (used + 1)
-slot-fits used h = record { fits = omega arith }
+pub slot-fits : (p : BufferPool) → Orderly (p .slots) p → p .used < p .slots → Fits w64 (p .used + 1)
+slot-fits p O h = record { fits = omega (arith, few-slots p O) }
 
 -- a take by one of the callers, from what it has tested; one by none
 module _ (p : BufferPool) (caller destination : ℕ) where
-  pub taken-by-none : 4 ≤ caller → (c : Called) → c ≡ refused p 12 → c ≡ takeStep 8 p caller destination
+  pub taken-by-none : 4 ≤ caller → (c : Called) → c ≡ refused p 12 → c ≡ takeStep (p .slots) p caller destination
   unfolding takeStep takeOn
   taken-by-none h c e = e ∙ rw (le-leb callerCount caller h)
 
   module _ (b : caller < 4) (f : Place) (i : f ≡ frameOf (p .mode) p) where
     abbrev taking : Bool → PoolMode → Called
     taking empty mode =
-        takeOn false empty (ltb destination (frameOf mode p .length)) (leb mostSerials (givenTo p caller)) mode 8 caller p
+        takeOn false empty (ltb destination (frameOf mode p .length)) (leb mostSerials (givenTo p caller)) mode (p .slots) caller p
 
     -- the step, by whether the frame is empty
     taken-on : (empty : Bool) → eqb (f .length) 0 ≡ empty → (mode : PoolMode) → p .mode ≡ mode
-        → taking empty mode ≡ takeStep 8 p caller destination
+        → taking empty mode ≡ takeStep (p .slots) p caller destination
     unfolding takeStep
     taken-on empty e mode m = rw (← m, ← e, lt-leb callerCount caller b, i)
 
     pub taken-empty : f .length ≡ 0 → (q : BufferPool) → q ≡ resized (p .mode) p (f .length)
-        → record { pool = q; answer = Copied 0 } ≡ takeStep 8 p caller destination
+        → record { pool = q; answer = Copied 0 } ≡ takeStep (p .slots) p caller destination
     unfolding takeOn
     taken-empty z q e =
         ap (λ (x : BufferPool). called x (Copied 0)) (e ∙ ap (λ (x : Place). resized (p .mode) p (x .length)) i)
         ∙ taken-on true (eq-eqb (f .length) 0 z) (p .mode) refl
 
     module _ (n : f .length ≡ 0 → ⊥) (c : Called) where
-      some-as : (mode : PoolMode) → p .mode ≡ mode → taking false mode ≡ takeStep 8 p caller destination
+      some-as : (mode : PoolMode) → p .mode ≡ mode → taking false mode ≡ takeStep (p .slots) p caller destination
       some-as = taken-on false (ne-eqb (f .length) 0 n)
 
       pub taken-back : p .mode ≡ Back
-          → c ≡ pooled (leb 4294967295 (givenTo p caller)) 8 caller p Back (p .used + 1 - p .«back_start»)
-          → c ≡ takeStep 8 p caller destination
+          → c ≡ pooled (leb 4294967295 (givenTo p caller)) (p .slots) caller p Back (p .used + 1 - p .«back_start»)
+          → c ≡ takeStep (p .slots) p caller destination
       unfolding takeOn
       taken-back m e =
-          e ∙ ap (λ (k : ℕ). pooled (leb 4294967295 (givenTo p caller)) 8 caller p Back (k - p .«back_start»)) (add-one (p .used))
+          e ∙ ap (λ (k : ℕ). pooled (leb 4294967295 (givenTo p caller)) (p .slots) caller p Back (k - p .«back_start»)) (add-one (p .used))
           ∙ some-as Back m
 
       pub taken-front : (g : PoolFront) → p .mode ≡ Front g
-          → c ≡ pooled (leb 4294967295 (givenTo p caller)) 8 caller p (front (g .«back_start») (g .«byte_capacity») (p .used + 1)) (p .«back_len»)
-          → c ≡ takeStep 8 p caller destination
+          → c ≡ pooled (leb 4294967295 (givenTo p caller)) (p .slots) caller p (front (g .«back_start») (g .«byte_capacity») (p .used + 1)) (p .«back_len»)
+          → c ≡ takeStep (p .slots) p caller destination
       unfolding takeOn
       taken-front g m e =
           e
-          ∙ ap (λ (k : ℕ). pooled (leb 4294967295 (givenTo p caller)) 8 caller p (front (g .«back_start») (g .«byte_capacity») k) (p .«back_len»))
+          ∙ ap (λ (k : ℕ). pooled (leb 4294967295 (givenTo p caller)) (p .slots) caller p (front (g .«back_start») (g .«byte_capacity») k) (p .«back_len»))
           (add-one (p .used))
           ∙ some-as (Front g) m
 
-      pub taken-alloc : p .mode ≡ Alloc → c ≡ copiedOutOn (ltb destination (p .cursor)) p → c ≡ takeStep 8 p caller destination
+      pub taken-alloc : p .mode ≡ Alloc → c ≡ copiedOutOn (ltb destination (p .cursor)) p → c ≡ takeStep (p .slots) p caller destination
       unfolding takeOn
       taken-alloc m e = e ∙ some-as Alloc m
 
 -- ---- Release
 
 module _ (p : BufferPool) (h : Handle) where
-  pub slot-zero : h .slot < 1 → false ≡ names 8 p h
+  pub slot-zero : h .slot < 1 → false ≡ names (p .slots) p h
   unfolding names
   slot-zero l = rw (lt-leb 1 (h .slot) l)
 
   module _ (l : 1 ≤ h .slot) where
-    pub slot-past : 8 < h .slot → false ≡ names 8 p h
+    pub slot-past : (p .slots) < h .slot → false ≡ names (p .slots) p h
     unfolding names
-    slot-past k = rw (le-leb 1 (h .slot) l, lt-leb (h .slot) 8 k)
+    slot-past k = rw (le-leb 1 (h .slot) l, lt-leb (h .slot) (p .slots) k)
 
-    module _ (k : h .slot ≤ 8) (v : Bool) (e : v ≡ liveAt 8 (p .live) (h .slot)) where
-      pub slot-free : not v ≡ true → false ≡ names 8 p h
+    module _ (k : h .slot ≤ p .slots) (v : Bool) (e : v ≡ liveAt (p .slots) (p .live) (h .slot)) where
+      pub slot-free : not v ≡ true → false ≡ names (p .slots) p h
       unfolding names
-      slot-free t = rw (le-leb 1 (h .slot) l, le-leb (h .slot) 8 k, ← e, not-true v t)
+      slot-free t = rw (le-leb 1 (h .slot) l, le-leb (h .slot) (p .slots) k, ← e, not-true v t)
 
       module _ (t : not v ≡ false) where
-        pub start-differs : (h .start ≡ getD (p .starts) (h .slot - 1) 0 → ⊥) → false ≡ names 8 p h
+        pub start-differs : (h .start ≡ getD (p .starts) (h .slot - 1) 0 → ⊥) → false ≡ names (p .slots) p h
         unfolding names
-        start-differs d = rw (le-leb 1 (h .slot) l, le-leb (h .slot) 8 k, ← e, not-false v t, ne-eqb (h .start) (startAt (p .starts) (h .slot)) d)
+        start-differs d = rw (le-leb 1 (h .slot) l, le-leb (h .slot) (p .slots) k, ← e, not-false v t, ne-eqb (h .start) (startAt (p .starts) (h .slot)) d)
 
         module _ (a : h .start ≡ getD (p .starts) (h .slot - 1) 0) where
-          pub length-differs : (h .length ≡ getD (p .lengths) (h .slot - 1) 0 → ⊥) → false ≡ names 8 p h
+          pub length-differs : (h .length ≡ getD (p .lengths) (h .slot - 1) 0 → ⊥) → false ≡ names (p .slots) p h
           unfolding names
           length-differs d =
-              rw (le-leb 1 (h .slot) l, le-leb (h .slot) 8 k, ← e, not-false v t, eq-eqb (h .start) (startAt (p .starts) (h .slot)) a, ne-eqb (h .length) (startAt (p .lengths) (h .slot)) d)
+              rw (le-leb 1 (h .slot) l, le-leb (h .slot) (p .slots) k, ← e, not-false v t, eq-eqb (h .start) (startAt (p .starts) (h .slot)) a, ne-eqb (h .length) (startAt (p .lengths) (h .slot)) d)
 
           module _ (b : h .length ≡ getD (p .lengths) (h .slot - 1) 0) where
-            pub serial-differs : (h .serial ≡ getD (p .serials) (h .slot - 1) 0 → ⊥) → false ≡ names 8 p h
+            pub serial-differs : (h .serial ≡ getD (p .serials) (h .slot - 1) 0 → ⊥) → false ≡ names (p .slots) p h
             unfolding names
             serial-differs d =
-                rw (le-leb 1 (h .slot) l, le-leb (h .slot) 8 k, ← e, not-false v t, eq-eqb (h .start) (startAt (p .starts) (h .slot)) a, eq-eqb (h .length) (startAt (p .lengths) (h .slot)) b, ne-eqb (h .serial) (startAt (p .serials) (h .slot)) d)
+                rw (le-leb 1 (h .slot) l, le-leb (h .slot) (p .slots) k, ← e, not-false v t, eq-eqb (h .start) (startAt (p .starts) (h .slot)) a, eq-eqb (h .length) (startAt (p .lengths) (h .slot)) b, ne-eqb (h .serial) (startAt (p .serials) (h .slot)) d)
 
             module _ (s : h .serial ≡ getD (p .serials) (h .slot - 1) 0) where
               -- all but the caller is the slot's
-              but-caller : names 8 p h ≡ (eqb (h .caller) (startAt (p .callers) (h .slot)) && ltb (h .caller) callerCount)
+              but-caller : names (p .slots) p h ≡ (eqb (h .caller) (startAt (p .callers) (h .slot)) && ltb (h .caller) callerCount)
               unfolding names
               but-caller =
-                  rw (le-leb 1 (h .slot) l, le-leb (h .slot) 8 k, ← e, not-false v t, eq-eqb (h .start) (startAt (p .starts) (h .slot)) a, eq-eqb (h .length) (startAt (p .lengths) (h .slot)) b, eq-eqb (h .serial) (startAt (p .serials) (h .slot)) s)
+                  rw (le-leb 1 (h .slot) l, le-leb (h .slot) (p .slots) k, ← e, not-false v t, eq-eqb (h .start) (startAt (p .starts) (h .slot)) a, eq-eqb (h .length) (startAt (p .lengths) (h .slot)) b, eq-eqb (h .serial) (startAt (p .serials) (h .slot)) s)
 
-              pub caller-differs : (h .caller ≡ getD (p .callers) (h .slot - 1) 0 → ⊥) → false ≡ names 8 p h
+              pub caller-differs : (h .caller ≡ getD (p .callers) (h .slot - 1) 0 → ⊥) → false ≡ names (p .slots) p h
               caller-differs d = sym (but-caller ∙ rw (ne-eqb (h .caller) (startAt (p .callers) (h .slot)) d))
 
-              pub caller-decides : h .caller ≡ getD (p .callers) (h .slot - 1) 0 → ltb (h .caller) 4 ≡ names 8 p h
+              pub caller-decides : h .caller ≡ getD (p .callers) (h .slot - 1) 0 → ltb (h .caller) 4 ≡ names (p .slots) p h
               caller-decides d = sym (but-caller ∙ rw (eq-eqb (h .caller) (startAt (p .callers) (h .slot)) d))
 
-module _ (p : BufferPool) (h : Handle) (b : Bool) (e : b ≡ names 8 p h) where
-  pub release-refused : not b ≡ true → (c : Called) → c ≡ refused p 7 → c ≡ releaseStep 8 p h
+module _ (p : BufferPool) (h : Handle) (b : Bool) (e : b ≡ names (p .slots) p h) where
+  pub release-refused : not b ≡ true → (c : Called) → c ≡ refused p 7 → c ≡ releaseStep (p .slots) p h
   unfolding releaseStep
   release-refused t c f = f ∙ rw (← e, not-true b t)
 
-  named : not b ≡ false → names 8 p h ≡ true
+  named : not b ≡ false → names (p .slots) p h ≡ true
   named t = sym e ∙ not-false b t
 
   pub named-one : not b ≡ false → 1 ≤ h .slot
   unfolding names
   named-one t = leb-true 1 (h .slot) (both-true (leb 1 (h .slot)) _ (named t) .0)
 
-  pub named-most : not b ≡ false → h .slot ≤ 8
+  pub named-most : not b ≡ false → h .slot ≤ p .slots
   unfolding names
-  named-most t = leb-true (h .slot) 8 (both-true (leb (h .slot) 8) _ (both-true (leb 1 (h .slot)) _ (named t) .1) .0)
+  named-most t = leb-true (h .slot) (p .slots) (both-true (leb (h .slot) (p .slots)) _ (both-true (leb 1 (h .slot)) _ (named t) .1) .0)
 
-  pub release-done : not b ≡ false → (live : ℕ) → live ≡ released 8 (p .live) (h .slot)
-      → record { pool = withLive p live; answer = Done } ≡ releaseStep 8 p h
+  pub release-done : not b ≡ false → (live : ℕ) → live ≡ released (p .slots) (p .live) (h .slot)
+      → record { pool = withLive p live; answer = Done } ≡ releaseStep (p .slots) p h
   unfolding releaseStep
   release-done t live f = rw (← e, not-false b t, f)

@@ -23,21 +23,26 @@ use Rattle.buffer_pool.specs.declared.buffer_pool.PoolFront.{PoolFront}
 use Rattle.buffer_pool.specs.declared.buffer_pool.PoolMode.{PoolMode}
 use Rattle.buffer_pool.specs.declared.buffer_pool.PoolMode.the-variants.{Back, Front, Alloc}
 use Rattle.buffer_pool.specs.declared.buffer_pool.Called.{Called}
-use Rattle.buffer_pool.specs.Record.{callerCount, startAt, after, newRecord, withLive}
+use Rattle.buffer_pool.specs.Record.{mostSlots, callerCount, startAt, after, newRecord, withLive}
+use Rattle.buffer_pool.specs.Soundness.{isCount}
 use Rattle.buffer_pool.specs.Sound.{Held, Slots, SerialsFit, Ready, InBack, Side, own, above, InFront, InMode, Orderly}
 use Rattle.buffer_pool.specs.Steps.{frame, frameOf, resized, commitStep, truncateStep, mostSerials, givenTo, handedOut, longer, takeOn, takeStep, names, freed, releaseStep}
 use Rattle.buffer_pool.proofs.Order.{startOf, endOf, Beside, none-held}
-use Rattle.buffer_pool.proofs.Parts.{ready-marked, ready-framed, framed-orderly, back-kept, front-kept, front-longer, alloc-kept, zeros-long, no-slots, no-slots-back}
+use Rattle.buffer_pool.proofs.Parts.{count-bounds, ready-marked, ready-framed, framed-orderly, back-kept, front-kept, front-longer, alloc-kept, zeros-long, no-slots, no-slots-back}
 
 -- ---- New
 
-pub new-orderly : (w capacity overflow : ℕ) → 0 < w → Orderly w (newRecord w capacity overflow)
-new-orderly w capacity overflow h =
+pub new-orderly : (w capacity overflow : ℕ) → isCount w ≡ true → Orderly w (newRecord w capacity overflow)
+new-orderly w capacity overflow i =
+    let h = count-bounds w i .0 in
+    let z = zeros-long w mostSlots (count-bounds w i .1) in
     record {
       ready =
           record {
-            slots = no-slots refl (pow-pos w) (zeros-long w) (zeros-long w);
-            serials-fit = record { serials-w = zeros-long w; callers-w = zeros-long w; given-all = zeros-long callerCount };
+            count-is = refl;
+            is-count = i;
+            slots = no-slots refl (pow-pos w) z z;
+            serials-fit = record { serials-w = z; callers-w = z; given-all = zeros-long callerCount callerCount (omega arith) };
             kept-in = omega arith;
             start-below = h;
             back-within = omega arith;

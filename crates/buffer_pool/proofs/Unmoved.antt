@@ -20,77 +20,77 @@ use Rattle.buffer_pool.specs.Deciding.{keepsIn, fitsIn, settled, startsO
 -- ---- What the code tests
 
 module _ (p : BufferPool) (len : ℕ) (b : Bool) where
-  pub fits-back : p .mode ≡ Back → b ≡ backFits 8 p len → b ≡ fitsIn (p .mode) 8 p len
+  pub fits-back : p .mode ≡ Back → b ≡ backFits (p .slots) p len → b ≡ fitsIn (p .mode) (p .slots) p len
   unfolding fitsIn
   fits-back m e = e ∙ rw m refl
 
-  pub fits-front : (f : PoolFront) → p .mode ≡ Front f → b ≡ (ltb (f .len) (f .«back_start») && frontFits p (f .«byte_capacity») len) → b ≡ fitsIn (p .mode) 8 p len
+  pub fits-front : (f : PoolFront) → p .mode ≡ Front f → b ≡ (ltb (f .len) (f .«back_start») && frontFits p (f .«byte_capacity») len) → b ≡ fitsIn (p .mode) (p .slots) p len
   unfolding fitsIn
   fits-front f m e = e ∙ rw m refl
 
-  pub fits-alloc : p .mode ≡ Alloc → b ≡ (keepsIn 8 p && leb (p .cursor + len + 0) (p .kept)) → b ≡ fitsIn (p .mode) 8 p len
+  pub fits-alloc : p .mode ≡ Alloc → b ≡ (keepsIn (p .slots) p && leb (p .cursor + len + 0) (p .kept)) → b ≡ fitsIn (p .mode) (p .slots) p len
   unfolding fitsIn
   fits-alloc m e = e ∙ rw m refl
 
 -- does A keep the frame?
-module _ (p : BufferPool) (s : Bool) (e : s ≡ stays 8 false p) where
-  pub keeps-staying : s ≡ true → true ≡ keepsIn 8 p
+module _ (p : BufferPool) (s : Bool) (e : s ≡ stays (p .slots) false p) where
+  pub keeps-staying : s ≡ true → true ≡ keepsIn (p .slots) p
   unfolding keepsIn
   keeps-staying t = rw (← e, t)
 
-  module _ (t : s ≡ false) (l : ℕ) (f : l ≡ leadingZeros 8 (p .live)) where
-    pub head-free : (l ≡ 0 → ⊥) → false ≡ keepsIn 8 p
+  module _ (t : s ≡ false) (l : ℕ) (f : l ≡ leadingZeros (p .slots) (p .live)) where
+    pub head-free : (l ≡ 0 → ⊥) → false ≡ keepsIn (p .slots) p
     unfolding keepsIn
     head-free n = rw (← e, t, ← f, ne-eqb l 0 n)
 
-    pub tail-decides : l ≡ 0 → (k : ℕ) → k ≡ trailingZeros 8 (p .live) → eqb k 0 ≡ keepsIn 8 p
+    pub tail-decides : l ≡ 0 → (k : ℕ) → k ≡ trailingZeros (p .slots) (p .live) → eqb k 0 ≡ keepsIn (p .slots) p
     unfolding keepsIn
     tail-decides z k g = rw (← e, t, ← f, eq-eqb l 0 z, g)
 
-module _ (p : BufferPool) (len : ℕ) (s : Bool) (e : s ≡ keepsIn 8 p) where
-  pub gone : not s ≡ true → false ≡ (keepsIn 8 p && leb (p .cursor + len + 0) (p .kept))
+module _ (p : BufferPool) (len : ℕ) (s : Bool) (e : s ≡ keepsIn (p .slots) p) where
+  pub gone : not s ≡ true → false ≡ (keepsIn (p .slots) p && leb (p .cursor + len + 0) (p .kept))
   gone t = rw (← e, not-true s t)
 
-  pub not-growing : not s ≡ true → false ≡ growingHere 8 p len
+  pub not-growing : not s ≡ true → false ≡ growingHere (p .slots) p len
   unfolding growingHere
   not-growing t = rw (← e, not-true s t)
 
   module _ (t : not s ≡ false) where
-    pub kept-here : (b : Bool) → b ≡ leb (p .cursor + len + 0) (p .kept) → b ≡ (keepsIn 8 p && leb (p .cursor + len + 0) (p .kept))
+    pub kept-here : (b : Bool) → b ≡ leb (p .cursor + len + 0) (p .kept) → b ≡ (keepsIn (p .slots) p && leb (p .cursor + len + 0) (p .kept))
     kept-here b f = f ∙ rw (← e, not-false s t)
 
     module _ (o : Bool) (f : o ≡ leb (p .cursor + len + 0) (p .overflow)) where
-      pub no-room : not o ≡ true → false ≡ growingHere 8 p len
+      pub no-room : not o ≡ true → false ≡ growingHere (p .slots) p len
       unfolding growingHere
       no-room h = rw (← e, not-false s t, ← f, not-true o h)
 
-      pub past-kept : not o ≡ false → (k : Bool) → k ≡ leb (p .cursor + len + 0) (p .kept) → not k ≡ growingHere 8 p len
+      pub past-kept : not o ≡ false → (k : Bool) → k ≡ leb (p .cursor + len + 0) (p .kept) → not k ≡ growingHere (p .slots) p len
       unfolding growingHere
       past-kept h k g = rw (← e, not-false s t, ← f, not-false o h, g)
 
 module _ (p : BufferPool) (len : ℕ) (r : Bool) (e : r ≡ resets p) where
-  pub unsettled : r ≡ true → false ≡ settled 8 p len
+  pub unsettled : r ≡ true → false ≡ settled (p .slots) p len
   unfolding settled
   unsettled t = rw (← e, t)
 
-  pub settled-fits : r ≡ false → (b : Bool) → b ≡ fitsIn (p .mode) 8 p len → b ≡ settled 8 p len
+  pub settled-fits : r ≡ false → (b : Bool) → b ≡ fitsIn (p .mode) (p .slots) p len → b ≡ settled (p .slots) p len
   unfolding settled
   settled-fits t b f = f ∙ rw (← e, t)
 
-  pub still : r ≡ true → false ≡ growing 8 p len
+  pub still : r ≡ true → false ≡ growing (p .slots) p len
   unfolding growing
   still t = rw (← e, t)
 
   module _ (t : r ≡ false) where
-    pub still-back : p .mode ≡ Back → false ≡ growing 8 p len
+    pub still-back : p .mode ≡ Back → false ≡ growing (p .slots) p len
     unfolding growing
     still-back m = rw (← e, t, m)
 
-    pub still-front : (f : PoolFront) → p .mode ≡ Front f → false ≡ growing 8 p len
+    pub still-front : (f : PoolFront) → p .mode ≡ Front f → false ≡ growing (p .slots) p len
     unfolding growing
     still-front f m = rw (← e, t, m)
 
-    pub growing-alloc : p .mode ≡ Alloc → (b : Bool) → b ≡ growingHere 8 p len → b ≡ growing 8 p len
+    pub growing-alloc : p .mode ≡ Alloc → (b : Bool) → b ≡ growingHere (p .slots) p len → b ≡ growing (p .slots) p len
     unfolding growing
     growing-alloc m b f = f ∙ rw (← e, t, m)
 
@@ -127,53 +127,53 @@ abbrev pub unmoved : BufferPool → ℕ → Decision
 unmoved q len = record { next = offered q len; changes = 0; moves = []; heap = isAlloc (q .mode) }
 
 -- A keeps a frame that it keeps
-keeps-layer : (r : BufferPool) (len : ℕ) → keepsIn 8 r ≡ true → allocLayer 8 false r len ≡ stay Alloc r []
+keeps-layer : (r : BufferPool) (len : ℕ) → keepsIn (r .slots) r ≡ true → allocLayer (r .slots) false r len ≡ stay Alloc r []
 unfolding keepsIn allocLayer allocOn tailFits headFits
-keeps-layer r len = go (stays 8 false r) refl
+keeps-layer r len = go (stays (r .slots) false r) refl
   where
-    go : (s : Bool) → stays 8 false r ≡ s → (s || (eqb (leadingZeros 8 (r .live)) 0 && eqb (trailingZeros 8 (r .live)) 0)) ≡ true → allocOn (stays 8 false r) (tailFits 8 r len) (headFits 8 r) 8 r ≡ stay Alloc r []
+    go : (s : Bool) → stays (r .slots) false r ≡ s → (s || (eqb (leadingZeros (r .slots) (r .live)) 0 && eqb (trailingZeros (r .slots) (r .live)) 0)) ≡ true → allocOn (stays (r .slots) false r) (tailFits (r .slots) r len) (headFits (r .slots) r) (r .slots) r ≡ stay Alloc r []
     go true e k = rw e
     go false e k =
-        let z = both-true (eqb (leadingZeros 8 (r .live)) 0) _ k in
-        rw (e, eqb-true (leadingZeros 8 (r .live)) 0 (z .0), eqb-true (trailingZeros 8 (r .live)) 0 (z .1))
+        let z = both-true (eqb (leadingZeros (r .slots) (r .live)) 0) _ k in
+        rw (e, eqb-true (leadingZeros (r .slots) (r .live)) 0 (z .0), eqb-true (trailingZeros (r .slots) (r .live)) 0 (z .1))
 
 -- a mode that keeps the frame, with no move
-stayed : (mode : PoolMode) (r : BufferPool) (len : ℕ) → fitsIn mode 8 r len ≡ true → r .mode ≡ mode → placeOf 8 2 false mode r len ≡ unmoved r len
+stayed : (mode : PoolMode) (r : BufferPool) (len : ℕ) → fitsIn mode (r .slots) r len ≡ true → r .mode ≡ mode → placeOf (r .slots) 2 false mode r len ≡ unmoved r len
 unfolding placeOf layer fitsIn backLayer backOn frontLayer frontOn
 stayed Back r len e m = rw (e, m)
 stayed (Front f) r len e m = rw (e, m)
 stayed Alloc r len e m =
-    let s = both-true (keepsIn 8 r) (leb (r .cursor + len + 0) (r .kept)) e in
+    let s = both-true (keepsIn (r .slots) r) (leb (r .cursor + len + 0) (r .kept)) e in
     let k : r .cursor + len ≤ r .kept = omega (arith, leb-true (r .cursor + len + 0) (r .kept) (s .1)) in
     let x : max (r .kept) (r .cursor + len) ≡ r .kept = omega (arith, k) in
     rw (keeps-layer r len (s .0), m, le-ltb (r .kept) (r .cursor + len) k, x)
 
-pub settled-place : (r : BufferPool) (len : ℕ) → settled 8 r len ≡ true → place 8 r len ≡ unmoved r len
+pub settled-place : (r : BufferPool) (len : ℕ) → settled (r .slots) r len ≡ true → place (r .slots) r len ≡ unmoved r len
 unfolding settled place reset resetOn resetMoves
 settled-place r len e =
-    let s = both-true (not (resets r)) (fitsIn (r .mode) 8 r len) e in
+    let s = both-true (not (resets r)) (fitsIn (r .mode) (r .slots) r len) e in
     rw (not-true (resets r) (s .0)) (stayed (r .mode) r len (s .1) refl)
 
 -- a reset puts an empty frame of the pool at its start
-pub over-place : (r : BufferPool) (len : ℕ) → startsOver r len ≡ true → place 8 r len ≡ unmoved (placed r Back 0 0 0 0) len
+pub over-place : (r : BufferPool) (len : ℕ) → 0 < r .slots → startsOver r len ≡ true → place (r .slots) r len ≡ unmoved (placed r Back 0 0 0 0) len
 unfolding startsOver place reset resetOn resetMoves backFits fitsIn
-over-place r len e =
+over-place r len y e =
     let a = both-true (resets r) _ e in
     let b = both-true (not (isAlloc (r .mode))) _ (a .1) in
     let c = both-true (eqb (r .«raw_len») 0) _ (b .1) in
     let z = eqb-true (r .«raw_len») 0 (c .0) in
     let l = leb-true len (r .capacity) (c .1) in
     let f : leb (0 + r .«raw_len» + len) (r .capacity) ≡ true = le-leb (0 + r .«raw_len» + len) (r .capacity) (omega (arith, z, l)) in
-    rw (a .0) (over (r .mode) (not-true (isAlloc (r .mode)) (b .0)) z (stayed Back (placed r Back 0 0 0 0) len (rw f refl) refl))
+    rw (a .0) (over (r .mode) (not-true (isAlloc (r .mode)) (b .0)) z (stayed Back (placed r Back 0 0 0 0) len (rw (f, lt-ltb 0 (r .slots) y) refl) refl))
   where
     -- an empty frame is not moved
     none : r .«raw_len» ≡ 0
-        → first (within (r .«raw_offset») (r .«raw_len») 0) (placeOf 8 2 false Back (placed r Back 0 0 0 0) len) ≡ placeOf 8 2 false Back (placed r Back 0 0 0 0) len
-    none z = ap (λ (n : ℕ). first (within (r .«raw_offset») n 0) (placeOf 8 2 false Back (placed r Back 0 0 0 0) len)) z
+        → first (within (r .«raw_offset») (r .«raw_len») 0) (placeOf (r .slots) 2 false Back (placed r Back 0 0 0 0) len) ≡ placeOf (r .slots) 2 false Back (placed r Back 0 0 0 0) len
+    none z = ap (λ (n : ℕ). first (within (r .«raw_offset») n 0) (placeOf (r .slots) 2 false Back (placed r Back 0 0 0 0) len)) z
 
-    over : (mode : PoolMode) → isAlloc mode ≡ false → r .«raw_len» ≡ 0 → placeOf 8 2 false Back (placed r Back 0 0 0 0) len ≡ unmoved (placed r Back 0 0 0 0) len
+    over : (mode : PoolMode) → isAlloc mode ≡ false → r .«raw_len» ≡ 0 → placeOf (r .slots) 2 false Back (placed r Back 0 0 0 0) len ≡ unmoved (placed r Back 0 0 0 0) len
         → first (resetMoves true (ltb (r .cursor) (r .capacity)) (eqb (r .cursor) 0) mode r)
-        (placeOf 8 2 false (resetOn true (ltb (r .cursor) (r .capacity)) (eqb (r .cursor) 0) mode 8 r .mode) (resetOn true (ltb (r .cursor) (r .capacity)) (eqb (r .cursor) 0) mode 8 r) len)
+        (placeOf (r .slots) 2 false (resetOn true (ltb (r .cursor) (r .capacity)) (eqb (r .cursor) 0) mode r .mode) (resetOn true (ltb (r .cursor) (r .capacity)) (eqb (r .cursor) 0) mode r) len)
         ≡ unmoved (placed r Back 0 0 0 0) len
     over Back n z h = none z ∙ h
     over (Front g) n z h = none z ∙ h
@@ -184,7 +184,7 @@ abbrev pub grown : BufferPool → ℕ → Decision
 grown r len =
     record { next = offered (keptTo r (r .cursor + len)) len; changes = 0; moves = Grow (r .kept) (r .cursor + len) ∷ []; heap = true }
 
-grown-in : (mode : PoolMode) (r : BufferPool) (len : ℕ) → isAlloc mode ≡ true → r .mode ≡ mode → keepsIn 8 r ≡ true → r .kept < r .cursor + len → placeOf 8 2 false mode r len ≡ grown r len
+grown-in : (mode : PoolMode) (r : BufferPool) (len : ℕ) → isAlloc mode ≡ true → r .mode ≡ mode → keepsIn (r .slots) r ≡ true → r .kept < r .cursor + len → placeOf (r .slots) 2 false mode r len ≡ grown r len
 unfolding placeOf layer
 grown-in Back r len a m c k = absurd (no-true a)
 grown-in (Front f) r len a m c k = absurd (no-true a)
@@ -192,13 +192,13 @@ grown-in Alloc r len a m c k =
     let x : max (r .kept) (r .cursor + len) ≡ r .cursor + len = omega (arith, k) in
     rw (keeps-layer r len c, m, lt-ltb (r .kept) (r .cursor + len) k, x)
 
-pub growing-place : (r : BufferPool) (len : ℕ) → growing 8 r len ≡ true
-    → (place 8 r len ≡ grown r len) × (r .cursor + len ≤ r .overflow) × (r .kept < r .cursor + len)
+pub growing-place : (r : BufferPool) (len : ℕ) → growing (r .slots) r len ≡ true
+    → (place (r .slots) r len ≡ grown r len) × (r .cursor + len ≤ r .overflow) × (r .kept < r .cursor + len)
 unfolding growing growingHere place reset resetOn resetMoves
 growing-place r len e =
     let a = both-true (not (resets r)) _ e in
     let b = both-true (isAlloc (r .mode)) _ (a .1) in
-    let c = both-true (keepsIn 8 r) _ (b .1) in
+    let c = both-true (keepsIn (r .slots) r) _ (b .1) in
     let d = both-true (leb (r .cursor + len + 0) (r .overflow)) _ (c .1) in
     let k : r .kept < r .cursor + len = omega (arith, leb-false (r .cursor + len + 0) (r .kept) (not-true _ (d .1))) in (
       rw (not-true (resets r) (a .0)) (grown-in (r .mode) r len (b .0) refl (c .0) k),

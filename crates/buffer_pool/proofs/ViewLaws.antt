@@ -27,24 +27,24 @@ use Rattle.buffer_pool.proofs.CallLaws.{guarded-by, passed-by, through-
 
 -- ---- A view that may be refused with 1 or 2
 
-module _ (p : BufferPool) (m : Memories) (k : ℕ) (e : k ≡ cause 8 p m) where
+module _ (p : BufferPool) (m : Memories) (k : ℕ) (e : k ≡ cause (p .slots) p m) where
   module _ (v : View) where
-    turned : (k ≡ 0 → ⊥) → hidden k ≡ guarded 8 p m hidden v
+    turned : (k ≡ 0 → ⊥) → hidden k ≡ guarded (p .slots) p m hidden v
     unfolding cause
-    turned n = ap hidden e ∙ guarded-by (sound 8 p) (misfit p m) hidden v (λ z. n (e ∙ z))
+    turned n = ap hidden e ∙ guarded-by (sound (p .slots) p) (misfit p m) hidden v (λ z. n (e ∙ z))
 
-    through : k ≡ 0 → v ≡ guarded 8 p m hidden v
+    through : k ≡ 0 → v ≡ guarded (p .slots) p m hidden v
     unfolding cause
-    through z = passed-by (sound 8 p) (misfit p m) hidden v (sym e ∙ z)
+    through z = passed-by (sound (p .slots) p) (misfit p m) hidden v (sym e ∙ z)
 
-    pub turned-view : (k ≡ 0 → ⊥) → (q : View) → q ≡ hidden k → q ≡ guarded 8 p m hidden v
+    pub turned-view : (k ≡ 0 → ⊥) → (q : View) → q ≡ hidden k → q ≡ guarded (p .slots) p m hidden v
     turned-view n q f = f ∙ turned n
 
   -- the reservation starts where the frame ends, at a 64-bit number
   pub through-sum : k ≡ 0 → frameOf (p .mode) p .start + frameOf (p .mode) p .length ≤ 18446744073709551615
-  through-sum z = let S = sound-use 8 p (through-sound p m k e z) in frame-end p (S .orderly) (S .capacity-limit) (S .overflow-limit)
+  through-sum z = let S = sound-use (p .slots) p (through-sound p m k e z) in frame-end (p .slots) p (S .orderly) (S .capacity-limit) (S .overflow-limit)
 
-  pub through-view : (f : Place) → k ≡ 0 → (x : Place) → x ≡ f → (q : View) → q ≡ shown x → q ≡ guarded 8 p m hidden (shown f)
+  pub through-view : (f : Place) → k ≡ 0 → (x : Place) → x ≡ f → (q : View) → q ≡ shown x → q ≡ guarded (p .slots) p m hidden (shown f)
   through-view f z x g q i = i ∙ ap shown g ∙ through (shown f) z
 
 -- ---- Parts of the memories
@@ -128,31 +128,31 @@ module _ (v view : View) (e : v ≡ view) where
 
 -- ---- The slice of a handle
 
-module _ (p : BufferPool) (pool overflow : List ℕ) (h : Handle) (v : View) (e : v ≡ sliceView 8 p (memories pool overflow) h) where
+module _ (p : BufferPool) (pool overflow : List ℕ) (h : Handle) (v : View) (e : v ≡ sliceView (p .slots) p (memories pool overflow) h) where
   pub slice-within : v .place .start + v .place .length ≤ length pool
-  slice-within = rw e (slice-lies 8 p (memories pool overflow) h)
+  slice-within = rw e (slice-lies (p .slots) p (memories pool overflow) h)
 
   in-pool : v .place .memory ≡ Pool
-  in-pool = ap (λ (x : View). x .place .memory) e ∙ slice-pool 8 p (memories pool overflow) h
+  in-pool = ap (λ (x : View). x .place .memory) e ∙ slice-pool (p .slots) p (memories pool overflow) h
 
   pub slice-bytes : (bytes : List ℕ) → bytes ≡ part pool (v .place .start) (v .place .length)
-      → bytes ≡ bytesAt (memories pool overflow) (sliceView 8 p (memories pool overflow) h .place)
+      → bytes ≡ bytesAt (memories pool overflow) (sliceView (p .slots) p (memories pool overflow) h .place)
   slice-bytes bytes f = bytes-there v _ e (memories pool overflow) bytes (bytes-pool pool overflow (v .place) in-pool bytes f)
 
   pub slice-written : (i byte : ℕ) (after : List ℕ) → after ≡ setAt pool (v .place) i byte
-      → memories after overflow ≡ written (memories pool overflow) (sliceView 8 p (memories pool overflow) h .place) i byte
+      → memories after overflow ≡ written (memories pool overflow) (sliceView (p .slots) p (memories pool overflow) h .place) i byte
   slice-written i byte after f =
       written-there v _ e (memories pool overflow) (memories after overflow) i byte
       (written-pool pool overflow (v .place) i byte after in-pool f)
 
-  pub slice-pointer : (a b pointer : ℕ × ℕ) → pointer ≡ movedOn a (v .place .start) → pointer ≡ placeAt a b (sliceView 8 p (memories pool overflow) h .place)
+  pub slice-pointer : (a b pointer : ℕ × ℕ) → pointer ≡ movedOn a (v .place .start) → pointer ≡ placeAt a b (sliceView (p .slots) p (memories pool overflow) h .place)
   slice-pointer a b pointer f = pointer-there v _ e a b pointer (pointer-pool a b (v .place) pointer in-pool f)
 
-module _ (p : BufferPool) (m : Memories) (k : ℕ) (e : k ≡ cause 8 p m) (z : k ≡ 0) (h : Handle) (b : Bool) (f : b ≡ names 8 p h) where
-  pub unnamed-view : not b ≡ true → (q : View) → q ≡ hidden 7 → q ≡ sliceView 8 p m h
+module _ (p : BufferPool) (m : Memories) (k : ℕ) (e : k ≡ cause (p .slots) p m) (z : k ≡ 0) (h : Handle) (b : Bool) (f : b ≡ names (p .slots) p h) where
+  pub unnamed-view : not b ≡ true → (q : View) → q ≡ hidden 7 → q ≡ sliceView (p .slots) p m h
   unfolding sliceView
   unnamed-view t q g = g ∙ through p m k e (hidden 7) z ∙ rw (← f, not-true b t)
 
-  pub named-view : not b ≡ false → (q : View) → q ≡ shown (at Pool (h .start) (h .length)) → q ≡ sliceView 8 p m h
+  pub named-view : not b ≡ false → (q : View) → q ≡ shown (at Pool (h .start) (h .length)) → q ≡ sliceView (p .slots) p m h
   unfolding sliceView
   named-view t q g = g ∙ through p m k e (shown (at Pool (h .start) (h .length))) z ∙ rw (← f, not-false b t)

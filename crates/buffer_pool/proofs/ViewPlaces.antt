@@ -1,5 +1,5 @@
 -- Every view's place lies in its memory, whatever record and memories it is asked of: a refused view is empty, and in a sound record
--- frame, reservation and every live slice lie inside. For every slot count. Assumes nothing.
+-- frame, reservation and every live slice lie inside. Assumes nothing.
 use mathlib.Core.Path.{_≡_, refl, sym, subst}
 use mathlib.Core.Bool.{Bool, true, false, not}
 use Prim.Native.Nat.{ℕ, _+_, _≤_}

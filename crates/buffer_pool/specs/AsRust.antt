@@ -1,4 +1,5 @@
--- How our record and bytes stand for a pool of the Rust, and what it means that a run of the Rust leaves them.
+-- How our record and bytes stand for a pool of the Rust, and what it means that a run of the Rust leaves them. A record whose arrays are
+-- longer than its slot count stands for one by its first entries (`cut` of Record.antt).
 -- proofs/RustAgrees.antt shows it of the reserve, proofs/RustCalls.antt of every call.
 use mathlib.Core.Path.{_≡_}
 use mathlib.Core.Bool.{true}
@@ -36,6 +37,10 @@ innerOf r bytes =
       lengths = r .lengths;
       len = r .used;
     }
+
+-- the arrays have w entries each, as the Rust's: what a cut record has
+abbrev pub Exact : ℕ → BufferPool → Type 0
+Exact w r = (length (r .starts) ≡ w) × (length (r .lengths) ≡ w)
 
 -- in this mode, with the pool's bytes and those of the `Vec` (as `overflow`), and the `reserved` of the `Vec` and of the pool
 abbrev pub rustAt : PoolMode → BufferPool → Memories → ℕ → ℕ → RustPool

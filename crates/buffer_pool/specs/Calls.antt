@@ -15,10 +15,10 @@ use Rattle.buffer_pool.specs.declared.buffer_pool.Place.{Place}
 use Rattle.buffer_pool.specs.declared.buffer_pool.View.{View}
 use Rattle.buffer_pool.specs.declared.buffer_pool.Answer.the-variants.{Done}
 use Rattle.buffer_pool.specs.declared.buffer_pool.Called.{Called}
-use Rattle.buffer_pool.specs.Record.{byteLimit, newRecord}
+use Rattle.buffer_pool.specs.Record.{rustSlots, byteLimit, newRecord}
 use Rattle.buffer_pool.specs.Moves.{Memories, memories, perform}
 use Rattle.buffer_pool.specs.Placing.{place, tooLong}
-use Rattle.buffer_pool.specs.Soundness.{sound}
+use Rattle.buffer_pool.specs.Soundness.{isCount, sound}
 use Rattle.buffer_pool.specs.Values.{noPlace, values}
 use Rattle.buffer_pool.specs.Steps.{called, refused, at, frame, reservation, reserveStep, commitStep, truncateStep, takeStep, takeMoves, names, releaseStep}
 
@@ -55,9 +55,12 @@ guardedCall w r m destination done = guarded w r m (λ number. outcome (refused 
 
 -- ---- The calls
 
--- SPECIFICATION 3.5: "A refused new gives the record of a new pool whose two lengths are 0, and changes no byte."
+-- SPECIFICATION 3.5: "A refused new gives the record of a new pool of 8 slots whose two lengths are 0, and changes no byte."
+abbrev pub newRefusedBy : ℕ → Called
+newRefusedBy number = refused (newRecord rustSlots 0 0) number
+
 abbrev pub newRefused : ℕ → Memories → Outcome
-newRefused w m = outcome (refused (newRecord w 0 0) 3) m []
+newRefused number m = outcome (newRefusedBy number) m []
 
 -- SPECIFICATION 7.1: "every byte of the pool memory becomes 0; the overflow's bytes stay; the record is that of 2.1"
 abbrev pub newDone : ℕ → Memories → Outcome
@@ -65,13 +68,13 @@ newDone w m =
     outcome (called (newRecord w (length (m .pool)) (length (m .overflow))) Done)
     (memories (replicate (length (m .pool)) 0) (m .overflow)) []
 
--- is a memory too long?
-abbrev pub newOn : Bool → ℕ → Memories → Outcome
-newOn long w m = pick long (newRefused w m) (newDone w m)
+-- is w a slot count? is a memory too long?
+abbrev pub newOn : Bool → Bool → ℕ → Memories → Outcome
+newOn counted long w m = pick counted (pick long (newRefused 3 m) (newDone w m)) (newRefused 16 m)
 
--- cause 3: "either memory has more than 1,048,576 bytes"
+-- cause 16, "the slot count is neither 8 nor 16", comes before cause 3: "either memory has more than 1,048,576 bytes"
 unfoldable pub new : ℕ → Memories → Outcome
-new w m = newOn (ltb byteLimit (length (m .pool)) || ltb byteLimit (length (m .overflow))) w m
+new w m = newOn (isCount w) (ltb byteLimit (length (m .pool)) || ltb byteLimit (length (m .overflow))) w m
 
 -- SPECIFICATION 6.1: bytes move only once 4 is excluded
 unfoldable pub reserve : ℕ → BufferPool → Memories → ℕ → Outcome

@@ -12,7 +12,7 @@ use Rattle.buffer_pool.specs.declared.buffer_pool.Memory.{Memory}
 use Rattle.buffer_pool.specs.declared.buffer_pool.Memory.the-variants.{Pool, Overflow}
 use Rattle.buffer_pool.specs.declared.buffer_pool.Place.{Place}
 use Rattle.buffer_pool.specs.declared.buffer_pool.Answer.the-variants.{Done}
-use Rattle.buffer_pool.specs.Record.{slotCount, startAt}
+use Rattle.buffer_pool.specs.Record.{rustSlots, startAt}
 use Rattle.buffer_pool.specs.Moves.{Memories, memories, Move, Within, Out, Grow}
 use Rattle.buffer_pool.specs.Placing.{place}
 use Rattle.buffer_pool.specs.Values.{values}
@@ -201,12 +201,12 @@ entry r p =
     }
 
 unfoldable pub play : BufferPool → Memories → CaseCall → Outcome
-play r m (Reserve n) = calls.reserve slotCount r m n
+play r m (Reserve n) = calls.reserve rustSlots r m n
 play r m (Write bytes) = calls.outcome (record { pool = r; answer = Done }) (writeIn (reservation r .memory) m (reservation r .start) bytes) []
-play r m (Commit n) = calls.commit slotCount r m n
-play r m (Truncate n) = calls.truncate slotCount r m n
-play r m Take = calls.take slotCount r m 0 (strange (r .overflow))
-play r m (Release p) = calls.release slotCount r m (entry r p)
+play r m (Commit n) = calls.commit rustSlots r m n
+play r m (Truncate n) = calls.truncate rustSlots r m n
+play r m Take = calls.take rustSlots r m 0 (strange (r .overflow))
+play r m (Release p) = calls.release rustSlots r m (entry r p)
 
 unfoldable pub see : BufferPool → Outcome → Seen
 see r o =
@@ -228,7 +228,7 @@ playAll r m (l ∷ rest) =
 
 unfoldable pub shownBy : Case → List (List Fact)
 shownBy c =
-    let o : Outcome = calls.new slotCount (memories (strange (c .capacity)) (strange (c .overflow))) in
+    let o : Outcome = calls.new rustSlots (memories (strange (c .capacity)) (strange (c .overflow))) in
     playAll (o .call .pool) (o .memory) (c .lines)
 
 -- the record after the lines, and the moves that a reserve then decides on
@@ -238,8 +238,8 @@ playTo r m (l ∷ rest) = let o : Outcome = play r m (l .call) in playTo (o .cal
 
 unfoldable pub movesBy : MoveCase → List Move
 movesBy c =
-    let o : Outcome = calls.new slotCount (memories (strange (c .before .capacity)) (strange (c .before .overflow))) in
-    place slotCount (playTo (o .call .pool) (o .memory) (c .before .lines)) (c .len) .moves
+    let o : Outcome = calls.new rustSlots (memories (strange (c .before .capacity)) (strange (c .before .overflow))) in
+    place rustSlots (playTo (o .call .pool) (o .memory) (c .before .lines)) (c .len) .moves
 
 unfoldable pub wanted : Case → List (List Fact)
 wanted c = map (λ (l : Line). l .facts) (c .lines)
@@ -311,12 +311,12 @@ released r (done q) = watched r 0 (at Pool 0 0) 0 q
 released r panic = watched r 99 (at Pool 0 0) 0 r
 
 unfoldable pub rustPlay : RustPool → CaseCall → Watched
-rustPlay r (Reserve n) = reserved′ r (rust-reserve slotCount 3 r n)
+rustPlay r (Reserve n) = reserved′ r (rust-reserve rustSlots 3 r n)
 rustPlay r (Write bytes) = watched r 0 (at Pool 0 0) 0 (rustWrite (r .mode) r bytes)
 rustPlay r (Commit n) = committed r (rust-commit r n)
 rustPlay r (Truncate n) = committed r (done (rust-truncate r n))
-rustPlay r Take = taken r (rust-take slotCount r)
-rustPlay r (Release p) = released r (rust-release slotCount r p)
+rustPlay r Take = taken r (rust-take rustSlots r)
+rustPlay r (Release p) = released r (rust-release rustSlots r p)
 
 unfoldable pub rustPlayAll : RustPool → List Line → List (List Fact)
 rustPlayAll r [] = []
@@ -324,11 +324,11 @@ rustPlayAll r (l ∷ rest) =
     let o : Watched = rustPlay r (l .call) in map (observed (o .seen)) (l .facts) ∷ rustPlayAll (o .left) rest
 
 unfoldable pub rustShownBy : Case → List (List Fact)
-rustShownBy c = rustPlayAll (rust-new slotCount (c .capacity)) (c .lines)
+rustShownBy c = rustPlayAll (rust-new rustSlots (c .capacity)) (c .lines)
 
 unfoldable pub rustPlayTo : RustPool → List Line → RustPool
 rustPlayTo r [] = r
 rustPlayTo r (l ∷ rest) = rustPlayTo (rustPlay r (l .call) .left) rest
 
 unfoldable pub rustMovesBy : MoveCase → List Move
-rustMovesBy c = rust-reserve-moves slotCount 3 (rustPlayTo (rust-new slotCount (c .before .capacity)) (c .before .lines)) (c .len)
+rustMovesBy c = rust-reserve-moves rustSlots 3 (rustPlayTo (rust-new rustSlots (c .before .capacity)) (c .before .lines)) (c .len)

@@ -14,10 +14,10 @@ use Rattle.buffer_pool.specs.declared.slice.Handle.{Handle}
 use Rattle.buffer_pool.specs.declared.buffer_pool.BufferPool.{BufferPool}
 use Rattle.buffer_pool.specs.declared.buffer_pool.Memory.{Memory}
 use Rattle.buffer_pool.specs.declared.buffer_pool.Memory.the-variants.{Pool, Overflow}
-use Rattle.buffer_pool.specs.Record.{byteLimit, startAt}
+use Rattle.buffer_pool.specs.Record.{cut, byteLimit, startAt}
 use Rattle.buffer_pool.specs.Moves.{Memories}
 use Rattle.buffer_pool.specs.Placing.{mostChanges}
-use Rattle.buffer_pool.specs.Soundness.{sound}
+use Rattle.buffer_pool.specs.Soundness.{isCount, sound}
 use Rattle.buffer_pool.specs.Steps.{frame, reservation, mostSerials, givenTo}
 use Rattle.buffer_pool.specs.Calls.{misfit}
 use Rattle.buffer_pool.specs.Rust.{Run, done, panic, Reply, rust-reserve}
@@ -34,6 +34,10 @@ unsound w r = not (sound w r)
 unfoldable pub tooLarge : Memories → Bool
 tooLarge m = ltb byteLimit (length (m .pool)) || ltb byteLimit (length (m .overflow))
 
+-- 16: "the slot count is neither 8 nor 16"
+unfoldable pub wrongCount : ℕ → Bool
+wrongCount w = not (isCount w)
+
 abbrev pub inOverflow : Memory → Bool
 inOverflow Pool = false
 inOverflow Overflow = true
@@ -44,10 +48,10 @@ usesHeap (done a) = inOverflow (a .writable .memory)
 usesHeap panic = false
 
 -- 4: "the Rust would use the heap, and frame length + `len` exceeds the length of the overflow", its sums being those of
--- SPECIFICATION 1.13. The Rust's pool is that of the record and the memories; its `reserve_` calls itself twice at most.
+-- SPECIFICATION 1.13. The Rust's pool is that of the record's first w entries and the memories; its `reserve_` calls itself twice at most.
 unfoldable pub heapTooShort : ℕ → BufferPool → Memories → ℕ → Bool
 heapTooShort w r m len =
-    usesHeap (rust-reserve w (suc mostChanges) (rustOf r (heapOf r m) (r .reserved)) len)
+    usesHeap (rust-reserve w (suc mostChanges) (rustOf (cut w r) (heapOf r m) (r .reserved)) len)
     && ltb (r .overflow) (frame r .length + len)
 
 -- 5: "`len` exceeds the length of the reservation"
@@ -104,9 +108,9 @@ ownCauses w r m (Look part) = viewCauses w r part
 unfoldable pub causes : ℕ → BufferPool → Memories → Call → List Cause
 causes w r m c = cause 1 (unsound w r) ∷ cause 2 (misfit r m) ∷ ownCauses w r m c
 
--- SPECIFICATION 3.5: "New has no cause but 3."
-unfoldable pub newCauses : Memories → List Cause
-newCauses m = cause 3 (tooLarge m) ∷ []
+-- SPECIFICATION 3.5: "New has no causes but 16 and 3, tested in this order."
+unfoldable pub newCauses : ℕ → Memories → List Cause
+newCauses w m = cause 16 (wrongCount w) ∷ cause 3 (tooLarge m) ∷ []
 
 -- the number of the first cause that holds, and 0 where none does
 unfoldable pub firstCause : List Cause → ℕ

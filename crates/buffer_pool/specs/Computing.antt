@@ -7,7 +7,7 @@ use Rattle.laws.specs.Live.{bit, claimed, released, lastLive, firstLive, lives}
 use Rattle.buffer_pool.specs.Record.{after}
 use Rattle.buffer_pool.specs.Moves.{act, perform}
 use Rattle.buffer_pool.specs.Placing.{drops, clearable, tailStart, tailFits, headFits, backFits, backOn, frontFits, leaveOn, frontOn, stays, allocOn, backLayer, frontLayer, allocLayer, layer, placeOf, resets, resetOn, resetMoves, reset, place, tooLong}
-use Rattle.buffer_pool.specs.Soundness.{shaped, limited, counted, rising, framedWithin, backNumbers, backSound, frontNumbers, besides, frontSound, allocSound, modeSound, orderly, sound}
+use Rattle.buffer_pool.specs.Soundness.{isCount, shaped, limited, counted, rising, framedWithin, backNumbers, backSound, frontNumbers, besides, frontSound, allocSound, modeSound, orderly, sound}
 use Rattle.buffer_pool.specs.Values.{refusal}
 use Rattle.buffer_pool.specs.Steps.{reserveOn, reserveStep, commitStep, truncateStep, takeOn, takeStep, takeMoves, names, releaseStep}
 use Rattle.buffer_pool.specs.Calls.{misfit, new, reserve, commit, truncate, copiedOut, take, release, frameView, reservationView, sliceView, bytesAt, written}
@@ -19,7 +19,7 @@ unfolding part copied moved zeroed every bit claimed released lastLive firstLive
 laws = tt
 
 unfoldable pub definitions : Unit {0}
-unfolding laws after act perform drops clearable tailStart tailFits headFits backFits backOn frontFits leaveOn frontOn stays allocOn backLayer frontLayer allocLayer layer placeOf resets resetOn resetMoves reset place tooLong shaped limited counted rising framedWithin backNumbers backSound frontNumbers besides frontSound allocSound modeSound orderly sound refusal reserveOn reserveStep commitStep truncateStep takeOn takeStep takeMoves names releaseStep misfit new reserve commit truncate copiedOut take release frameView reservationView sliceView bytesAt written
+unfolding laws after act perform drops clearable tailStart tailFits headFits backFits backOn frontFits leaveOn frontOn stays allocOn backLayer frontLayer allocLayer layer placeOf resets resetOn resetMoves reset place tooLong isCount shaped limited counted rising framedWithin backNumbers backSound frontNumbers besides frontSound allocSound modeSound orderly sound refusal reserveOn reserveStep commitStep truncateStep takeOn takeStep takeMoves names releaseStep misfit new reserve commit truncate copiedOut take release frameView reservationView sliceView bytesAt written
 definitions = tt
 
 unfoldable pub rustDefinitions : Unit {0}

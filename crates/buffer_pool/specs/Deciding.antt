@@ -2,7 +2,7 @@
 use mathlib.Core.Path.{_≡_}
 use mathlib.Core.Bool.{Bool, true, false, not, _&&_, _||_}
 use mathlib.Core.List.{List, [], _++_}
-use Prim.Native.Nat.{ℕ, _+_, _≤_}
+use Prim.Native.Nat.{ℕ, _+_, _^_, _≤_, _<_}
 use lib.Dec.{leb, ltb, eqb}
 use lib.Count.{leadingZeros, trailingZeros}
 use Rattle.buffer_pool.specs.declared.buffer_pool.BufferPool.{BufferPool}
@@ -12,7 +12,7 @@ use Rattle.buffer_pool.specs.declared.placing.Cleared.{Cleared}
 use Rattle.buffer_pool.specs.declared.placing.Start.{Start}
 use Rattle.buffer_pool.specs.declared.placing.ModeStep.{ModeStep}
 use Rattle.buffer_pool.specs.declared.placing.Decided.{Decided}
-use Rattle.buffer_pool.specs.Record.{framed}
+use Rattle.buffer_pool.specs.Record.{mostSlots, framed}
 use Rattle.buffer_pool.specs.Moves.{Move}
 use Rattle.buffer_pool.specs.MoveList.{listed}
 use Rattle.buffer_pool.specs.Placing.{Decision, Layer, finish, backFits, frontFits, stays, isAlloc, resets, tooLong}
@@ -23,9 +23,16 @@ frontLen Back = 0
 frontLen (Front f) = f .len
 frontLen Alloc = 0
 
--- what the code needs of a record in order to place a frame: the slots' numbers are within w, and outside A the overflow holds no
--- frame. Every orderly record has it, and every record on the way.
+-- the arrays have a place for every slot, and the live word a bit for each: what the code needs of a record to read its slots
+pub record Worded (r : BufferPool) : Type 0 where
+  pub most : r .slots ≤ mostSlots
+  pub word : r .live < 2 ^ r .slots
+
+-- what the code needs of a record in order to place a frame: it has w slots, with their places and bits, the slots' numbers are within
+-- w, and outside A the overflow holds no frame. Every orderly record has it, and every record on the way.
 pub record Placeable (w : ℕ) (r : BufferPool) : Type 0 where
+  pub count-is : r .slots ≡ w
+  pub worded : Worded r
   pub back-within : r .«back_start» + r .«back_len» ≤ w
   pub front-within : frontLen (r .mode) ≤ w
   pub no-cursor : isAlloc (r .mode) ≡ false → r .cursor ≡ 0

@@ -16,5 +16,5 @@ pub mod AsRust
 pub mod Causes
 pub mod Together
 pub mod Cases
-pub mod CallerCases
+pub mod AnswerCases
 pub mod Computing

@@ -237,13 +237,13 @@ resets r = eqb (r .live) 0 && (not (eqb (r .«back_len») 0) || (isAlloc (r .mod
 
 -- 5.3, the record after a reset, a line for each row of its table: reset at all? A's frame strictly shorter than the
 -- capacity? A's frame empty?
-unfoldable pub resetOn : Bool → Bool → Bool → PoolMode → ℕ → BufferPool → BufferPool
-resetOn false t z mode w r = r
-resetOn true t z Back w r = placed r Back 0 0 0 0
-resetOn true t z (Front f) w r = placed r Back 0 0 0 0
-resetOn true true true Alloc w r = withoutEntries w (placed r Back 0 0 0 0)
-resetOn true true false Alloc w r = framed (placed r Back 0 0 0 0) Back 0 (r .cursor) (r .kept - r .cursor) 0 (r .reserved)
-resetOn true false z Alloc w r = placed r Alloc (r .«back_start») (r .«back_len») 0 (r .«raw_offset»)
+unfoldable pub resetOn : Bool → Bool → Bool → PoolMode → BufferPool → BufferPool
+resetOn false t z mode r = r
+resetOn true t z Back r = placed r Back 0 0 0 0
+resetOn true t z (Front f) r = placed r Back 0 0 0 0
+resetOn true true true Alloc r = withoutEntries (placed r Back 0 0 0 0)
+resetOn true true false Alloc r = framed (placed r Back 0 0 0 0) Back 0 (r .cursor) (r .kept - r .cursor) 0 (r .reserved)
+resetOn true false z Alloc r = placed r Alloc (r .«back_start») (r .«back_len») 0 (r .«raw_offset»)
 
 -- its moves, by the same tests: 6.3 and 6.4 from A
 unfoldable pub resetMoves : Bool → Bool → Bool → PoolMode → BufferPool → List Move
@@ -254,15 +254,15 @@ resetMoves true true true Alloc r = []
 resetMoves true true false Alloc r = In (r .cursor) ∷ Down (r .cursor) (r .kept - r .cursor) ∷ []
 resetMoves true false z Alloc r = []
 
-unfoldable pub reset : ℕ → BufferPool → BufferPool
-reset w r = resetOn (resets r) (ltb (r .cursor) (r .capacity)) (eqb (r .cursor) 0) (r .mode) w r
+unfoldable pub reset : BufferPool → BufferPool
+reset r = resetOn (resets r) (ltb (r .cursor) (r .capacity)) (eqb (r .cursor) 0) (r .mode) r
 
 -- ---- The whole decision of a reserve of len bytes
 
 unfoldable pub place : ℕ → BufferPool → ℕ → Decision
 place w r len =
     first (resetMoves (resets r) (ltb (r .cursor) (r .capacity)) (eqb (r .cursor) 0) (r .mode) r)
-    (placeOf w mostChanges false (reset w r .mode) (reset w r) len)
+    (placeOf w mostChanges false (reset r .mode) (reset r) len)
 
 -- cause 4, by 5.12: "If the overflow is used and frame length + `len` exceeds its length"
 unfoldable pub tooLong : Decision → ℕ → Bool

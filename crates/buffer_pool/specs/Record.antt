@@ -2,15 +2,19 @@
 -- off it (SPECIFICATION 2). In a comment, s is `back_start` and n is `back_len`: SPECIFICATION 1.12 has the letters.
 use mathlib.Core.List.{List}
 use Prim.Native.Nat.{ℕ, zero, suc, _+_, _-_}
-use lib.ListN.{getD, replicate}
+use lib.ListN.{length, getD, replicate, take}
 use Rattle.buffer_pool.specs.declared.buffer_pool.BufferPool.{BufferPool}
 use Rattle.buffer_pool.specs.declared.buffer_pool.PoolMode.{PoolMode}
 use Rattle.buffer_pool.specs.declared.buffer_pool.PoolMode.the-variants.{Back, Front}
 
--- the slot count, the byte limit and the count of callers: the constants of the pool's type. A w in the other definitions is a
--- slot count.
-abbrev pub slotCount : ℕ
-slotCount = 8
+-- the two slot counts, the byte limit and the count of callers: the constants of the pool's type. W-208, "New takes a slot count of 8
+-- or 16": 8 is the Rust's count, a refused new's and that of traces; 16 is also the length of the record's arrays. A w in the other
+-- definitions is a slot count.
+abbrev pub rustSlots : ℕ
+rustSlots = 8
+
+abbrev pub mostSlots : ℕ
+mostSlots = 16
 
 abbrev pub byteLimit : ℕ
 byteLimit = 1048576
@@ -38,11 +42,12 @@ newRecord w capacity overflow =
     record {
       capacity = capacity;
       overflow = overflow;
+      slots = w;
       live = 0;
-      starts = replicate w 0;
-      lengths = replicate w 0;
-      serials = replicate w 0;
-      callers = replicate w 0;
+      starts = replicate mostSlots 0;
+      lengths = replicate mostSlots 0;
+      serials = replicate mostSlots 0;
+      callers = replicate mostSlots 0;
       given = replicate callerCount 0;
       «back_start» = 0;
       «back_len» = 0;
@@ -61,6 +66,7 @@ placed r mode s n used offset =
     record {
       capacity = r .capacity;
       overflow = r .overflow;
+      slots = r .slots;
       live = r .live;
       starts = r .starts;
       lengths = r .lengths;
@@ -84,6 +90,7 @@ framed r mode offset len kept cursor reserved =
     record {
       capacity = r .capacity;
       overflow = r .overflow;
+      slots = r .slots;
       live = r .live;
       starts = r .starts;
       lengths = r .lengths;
@@ -107,6 +114,7 @@ marked r live starts lengths serials callers given =
     record {
       capacity = r .capacity;
       overflow = r .overflow;
+      slots = r .slots;
       live = live;
       starts = starts;
       lengths = lengths;
@@ -128,6 +136,12 @@ marked r live starts lengths serials callers given =
 abbrev pub withLive : BufferPool → ℕ → BufferPool
 withLive r live = marked r live (r .starts) (r .lengths) (r .serials) (r .callers) (r .given)
 
--- r with the starts and lengths of its w slots cleared
-abbrev pub withoutEntries : ℕ → BufferPool → BufferPool
-withoutEntries w r = marked r (r .live) (replicate w 0) (replicate w 0) (r .serials) (r .callers) (r .given)
+-- r with all starts and lengths 0, those above the slot count too
+abbrev pub withoutEntries : BufferPool → BufferPool
+withoutEntries r =
+    marked r (r .live) (replicate (length (r .starts)) 0) (replicate (length (r .lengths)) 0) (r .serials) (r .callers) (r .given)
+
+-- r with the first w entries of each array of slots: what a pool of w slots has of it. Entries above never matter (proofs/Cut.antt)
+abbrev pub cut : ℕ → BufferPool → BufferPool
+cut w r =
+    marked r (r .live) (take w (r .starts)) (take w (r .lengths)) (take w (r .serials)) (take w (r .callers)) (r .given)

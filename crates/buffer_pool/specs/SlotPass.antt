@@ -23,10 +23,10 @@ abbrev pub bounds : BufferPool → ℕ → ℕ → ℕ → ℕ → Bounds
 bounds r own offset above bytes =
     record { most = r .«back_start» + r .«back_len»; capacity = r .capacity; own = own; offset = offset; above = above; bytes = bytes }
 
-unfoldable pub boundsOf : PoolMode → BufferPool → Bounds
-boundsOf Back r = bounds r 8 (r .«raw_offset») 8 0
-boundsOf (Front f) r = bounds r (f .len) (r .«raw_offset») (f .«back_start») (f .«byte_capacity»)
-boundsOf Alloc r = bounds r 0 0 0 0
+unfoldable pub boundsOf : ℕ → PoolMode → BufferPool → Bounds
+boundsOf w Back r = bounds r w (r .«raw_offset») w 0
+boundsOf w (Front f) r = bounds r (f .len) (r .«raw_offset») (f .«back_start») (f .«byte_capacity»)
+boundsOf w Alloc r = bounds r 0 0 0 0
 
 abbrev pub passed : Bool → ℕ → Passed
 passed sound end = record { sound = sound; end = end }
@@ -37,20 +37,20 @@ slotSound b p start stop end =
     leb p (b .most) && (leb end start && (ltb start stop && (leb stop (b .capacity) && beside b p start stop)))
 
 -- one slot, of index i: is it sound, and the end of the last live slot so far
-unfoldable pub slotPass : List ℕ → List ℕ → ℕ → Bounds → ℕ → ℕ → Passed
-slotPass starts lengths live b i end =
-    pick (liveAt 8 live (suc i))
+unfoldable pub slotPass : ℕ → List ℕ → List ℕ → ℕ → Bounds → ℕ → ℕ → Passed
+slotPass w starts lengths live b i end =
+    pick (liveAt w live (suc i))
     (passed (slotSound b (suc i) (getD starts i 0) (getD starts i 0 + getD lengths i 0) end) (getD starts i 0 + getD lengths i 0))
     (passed true end)
 
 -- n slots from index i on
-unfoldable pub passes : List ℕ → List ℕ → ℕ → Bounds → ℕ → ℕ → ℕ → Bool
-passes starts lengths live b zero i end = true
-passes starts lengths live b (suc n) i end =
-    pick (slotPass starts lengths live b i end .sound) (passes starts lengths live b n (suc i) (slotPass starts lengths live b i end .end)) false
+unfoldable pub passes : ℕ → List ℕ → List ℕ → ℕ → Bounds → ℕ → ℕ → ℕ → Bool
+passes w starts lengths live b zero i end = true
+passes w starts lengths live b (suc n) i end =
+    pick (slotPass w starts lengths live b i end .sound) (passes w starts lengths live b n (suc i) (slotPass w starts lengths live b i end .end)) false
 
 -- the test of the other numbers, by the mode: Soundness.antt's, without the slots
-unfoldable pub numbersSound : PoolMode → BufferPool → Bool
-numbersSound Back r = backNumbers 8 r
-numbersSound (Front f) r = frontNumbers 8 r f
-numbersSound Alloc r = allocSound r
+unfoldable pub numbersSound : ℕ → PoolMode → BufferPool → Bool
+numbersSound w Back r = backNumbers w r
+numbersSound w (Front f) r = frontNumbers w r f
+numbersSound w Alloc r = allocSound r

@@ -11,6 +11,7 @@ use Rattle.buffer_pool.specs.declared.buffer_pool.PoolFront.{PoolFront}
 use Rattle.buffer_pool.specs.declared.buffer_pool.PoolMode.{PoolMode}
 use Rattle.buffer_pool.specs.declared.buffer_pool.PoolMode.the-variants.{Back, Front, Alloc}
 use Rattle.buffer_pool.specs.Record.{byteLimit, callerCount, startAt, after}
+use Rattle.buffer_pool.specs.Soundness.{isCount}
 
 -- slot p is one of the w slots, and live
 pub record Held (w live p : ℕ) : Type 0 where
@@ -36,6 +37,8 @@ pub record SerialsFit (w : ℕ) (serials callers given : List ℕ) : Type 0 wher
 -- what holds in every mode, and all through a reserve: while a frame that goes out to the overflow has not been measured
 -- against it, the kept length may exceed the overflow by that frame
 pub record Ready (w : ℕ) (r : BufferPool) : Type 0 where
+  pub count-is : r .slots ≡ w
+  pub is-count : isCount w ≡ true
   pub slots : Slots w (r .live) (r .starts) (r .lengths) (r .capacity)
   pub serials-fit : SerialsFit w (r .serials) (r .callers) (r .given)
   pub kept-in : r .kept ≤ max (r .overflow) (r .cursor)

@@ -10,14 +10,19 @@ use Rattle.buffer_pool.specs.declared.buffer_pool.BufferPool.{BufferPool
 use Rattle.buffer_pool.specs.declared.buffer_pool.PoolFront.{PoolFront}
 use Rattle.buffer_pool.specs.declared.buffer_pool.PoolMode.{PoolMode}
 use Rattle.buffer_pool.specs.declared.buffer_pool.PoolMode.the-variants.{Back, Front, Alloc}
-use Rattle.buffer_pool.specs.Record.{byteLimit, callerCount, startAt, after}
+use Rattle.buffer_pool.specs.Record.{rustSlots, mostSlots, byteLimit, callerCount, startAt, after}
 
--- 4.5: the live word has w bits, each array a place for every slot and `given` one for every caller (in code the types say so)
+-- W-208: "a slot count of 8 or 16"
+unfoldable pub isCount : ℕ → Bool
+isCount w = eqb w rustSlots || eqb w mostSlots
+
+-- 4.5: the record's slot count is w, one of the two, and the live word has w bits; each array has a place for every slot and `given`
+-- one for every caller (in code the types say so)
 unfoldable pub shaped : ℕ → BufferPool → Bool
 shaped w r =
-    ltb (r .live) (2 ^ w)
+    eqb (r .slots) w && (isCount w && (ltb (r .live) (2 ^ w)
     && (leb w (length (r .starts)) && (leb w (length (r .lengths)) && (leb w (length (r .serials))
-    && (leb w (length (r .callers)) && leb callerCount (length (r .given))))))
+    && (leb w (length (r .callers)) && leb callerCount (length (r .given))))))))
 
 -- 4.2: no memory is longer than the limit
 unfoldable pub limited : BufferPool → Bool

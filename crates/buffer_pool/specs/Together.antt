@@ -122,6 +122,11 @@ unfoldable pub step : ℕ → Ours → Action → Ours
 step w s (Make c) = ours (outcomeIn w s c .call .pool) (outcomeIn w s c .memory) (heldAfter w s c)
 step w s (Write p i byte) = let o = write w (s .pool) (s .memory) p i byte in ours (o .call .pool) (o .memory) (s .held)
 
+-- what a list of actions leaves
+unfoldable pub leaves : ℕ → Ours → List Action → Ours
+leaves w s [] = s
+leaves w s (e ∷ es) = leaves w (step w s e) es
+
 -- what a call gives, by what its answer says
 abbrev pub givenAt : ℕ → Ours → Call → Given
 givenAt w s (Reserve len) = Offer (saidBy w s (Reserve len) .place) (saidBy w s (Reserve len) .changes)

@@ -1,6 +1,6 @@
 // The pool's record, its modes and what its calls answer (buffer_pool/mod.rs of the Rust).
 ghost use mathlib.Core.Path.{_≡_};
-ghost use Rattle.buffer_pool.specs.Record.{slotCount, newRecord, placed, framed, withoutEntries};
+ghost use Rattle.buffer_pool.specs.Record.{newRecord, placed, framed, withoutEntries};
 ghost use Rattle.buffer_pool.specs.Values.{noPlace, noHandle, values};
 use crate::slice::Handle;
 
@@ -26,14 +26,17 @@ pub struct BufferPool {
     pub capacity: u64,
     pub overflow: u64,
 
-    // for each slot the slice that was last taken there and its caller, for each caller how many serials it was given, and the live
-    // slots
-    pub starts: [u32; BufferPool::POOL_CAPACITY],
-    pub lengths: [u32; BufferPool::POOL_CAPACITY],
-    pub serials: [u32; BufferPool::POOL_CAPACITY],
+    // how many slots the pool has: 8 or 16
+    pub slots: usize,
+
+    // for each slot the slice that was last taken there and its caller (entries above `slots` never matter), for each caller how many
+    // serials it was given, and the live slots: slot p is bit `slots` - p
+    pub starts: [u32; BufferPool::MOST_SLOTS],
+    pub lengths: [u32; BufferPool::MOST_SLOTS],
+    pub serials: [u32; BufferPool::MOST_SLOTS],
     pub given: [u32; BufferPool::CALLERS],
-    pub callers: [u8; BufferPool::POOL_CAPACITY],
-    pub live: u8,
+    pub callers: [u8; BufferPool::MOST_SLOTS],
+    pub live: u16,
 
     // PoolBack: the back begins after slot `back_start` and has `back_len` slots
     pub back_start: usize,
@@ -198,8 +201,11 @@ pub struct Called {
 }
 
 impl BufferPool {
-    // How many slices can live in the pool.
+    // The Rust's count of slots.
     pub const POOL_CAPACITY: usize = 8;
+
+    // The other count, and the length of the arrays.
+    pub const MOST_SLOTS: usize = 16;
 
     // The greatest length of a lent memory.
     pub const BYTE_LIMIT: u64 = 1_048_576;
@@ -207,18 +213,19 @@ impl BufferPool {
     // How many callers have serials of their own: 0 to 3.
     pub const CALLERS: usize = 4;
 
-    // The record of a new pool with memories of these lengths.
-    pub fn with_lengths(capacity: u64, overflow: u64) -> Self
-        ensures { λ r. ⌜ r ≡ newRecord slotCount capacity overflow ⌝ }
+    // The record of a new pool of so many slots, with memories of these lengths.
+    pub fn with_lengths(slots: usize, capacity: u64, overflow: u64) -> Self
+        ensures { λ r. ⌜ r ≡ newRecord slots capacity overflow ⌝ }
     {
         BufferPool {
             capacity: capacity,
             overflow: overflow,
+            slots: slots,
             live: 0,
-            starts: [0; BufferPool::POOL_CAPACITY],
-            lengths: [0; BufferPool::POOL_CAPACITY],
-            serials: [0; BufferPool::POOL_CAPACITY],
-            callers: [0; BufferPool::POOL_CAPACITY],
+            starts: [0; BufferPool::MOST_SLOTS],
+            lengths: [0; BufferPool::MOST_SLOTS],
+            serials: [0; BufferPool::MOST_SLOTS],
+            callers: [0; BufferPool::MOST_SLOTS],
             given: [0; BufferPool::CALLERS],
             back_start: 0,
             back_len: 0,
@@ -251,6 +258,7 @@ impl BufferPool {
         BufferPool {
             capacity: self.capacity,
             overflow: self.overflow,
+            slots: self.slots,
             live: self.live,
             starts: starts,
             lengths: lengths,
@@ -289,6 +297,7 @@ impl BufferPool {
         BufferPool {
             capacity: self.capacity,
             overflow: self.overflow,
+            slots: self.slots,
             live: self.live,
             starts: starts,
             lengths: lengths,
@@ -307,13 +316,13 @@ impl BufferPool {
         }
     }
 
-    // The record with the slots' starts and lengths cleared.
+    // The record with all starts and lengths 0, those above the slot count too.
     pub(crate) fn without_entries(self) -> Self
-        ensures { λ r. ⌜ r ≡ withoutEntries slotCount self ⌝ }
+        ensures { λ r. ⌜ r ≡ withoutEntries self ⌝ }
     {
         let mut p = self;
-        p.starts = [0; BufferPool::POOL_CAPACITY];
-        p.lengths = [0; BufferPool::POOL_CAPACITY];
+        p.starts = [0; BufferPool::MOST_SLOTS];
+        p.lengths = [0; BufferPool::MOST_SLOTS];
         p
     }
 }

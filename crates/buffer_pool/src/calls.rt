@@ -5,7 +5,6 @@ ghost use mathlib.Core.List.{[]};
 ghost use Prim.Native.Nat.{_+_, _-_, _≤_};
 ghost use lib.ListN.{length};
 ghost use Rattle.laws.specs.Lists.{copied, moved, zeroed};
-ghost use Rattle.buffer_pool.specs.Record.{slotCount};
 ghost use Rattle.buffer_pool.specs.Moves.{memories};
 ghost use Rattle.buffer_pool.specs.Deciding as deciding;
 ghost use Rattle.buffer_pool.specs.Values.{refusal};
@@ -26,11 +25,12 @@ use crate::placing::place;
 use crate::placing::starts_over;
 use crate::refusals;
 use crate::slice::Handle;
+use crate::sound::is_count;
 use crate::steps;
 
 // What turns every call away: 1 if the record is unsound, 2 if a memory has another length than the record's, or 0.
 pub(crate) fn guard(p: BufferPool, pool: &[u8], overflow: &[u8]) -> u8
-    ensures { λ r. ⌜ r ≡ spec.cause slotCount p (memories (now (pool .entry)) (now (overflow .entry))) ⌝ }
+    ensures { λ r. ⌜ r ≡ spec.cause (p .slots) p (memories (now (pool .entry)) (now (overflow .entry))) ⌝ }
 {
     if !p.is_sound() {
         return refusals::UNSOUND;
@@ -108,7 +108,7 @@ fn copy_out(overflow: &mut [u8], destination: &mut [u8], n: u64, kept: u64)
 // What turns a commit away: 1 or 2, 5 if `n` exceeds the reservation, or 0. The calls find their refusal first, so that a call has one
 // place where it refuses and one where it is done.
 fn commit_cause(p: BufferPool, pool: &[u8], overflow: &[u8], n: u64) -> u8
-    ensures { λ r. ⌜ r ≡ spec.numbered slotCount p (memories (now (pool .entry)) (now (overflow .entry))) (refusal (steps.commitStep p n .answer)) ⌝ }
+    ensures { λ r. ⌜ r ≡ spec.numbered (p .slots) p (memories (now (pool .entry)) (now (overflow .entry))) (refusal (steps.commitStep p n .answer)) ⌝ }
 {
     let number = guard(p, pool, overflow);
     if number != 0 {
@@ -123,7 +123,7 @@ fn commit_cause(p: BufferPool, pool: &[u8], overflow: &[u8], n: u64) -> u8
 // What turns a take away: 1 or 2, 12 if the caller is above 3, 6 if the destination is too short for a frame of the overflow, 8 if
 // all serials are given to the caller, or 0.
 fn take_cause(p: BufferPool, pool: &[u8], overflow: &[u8], caller: u64, destination: u64) -> u8
-    ensures { λ r. ⌜ r ≡ spec.numbered slotCount p (memories (now (pool .entry)) (now (overflow .entry))) (refusal (steps.takeStep slotCount p caller destination .answer)) ⌝ }
+    ensures { λ r. ⌜ r ≡ spec.numbered (p .slots) p (memories (now (pool .entry)) (now (overflow .entry))) (refusal (steps.takeStep (p .slots) p caller destination .answer)) ⌝ }
 {
     let number = guard(p, pool, overflow);
     if number != 0 {
@@ -134,7 +134,7 @@ fn take_cause(p: BufferPool, pool: &[u8], overflow: &[u8], caller: u64, destinat
 
 // What turns a release away: 1 or 2, 7 if the handle names no live slice, or 0.
 fn release_cause(p: BufferPool, pool: &[u8], overflow: &[u8], h: Handle) -> u8
-    ensures { λ r. ⌜ r ≡ spec.numbered slotCount p (memories (now (pool .entry)) (now (overflow .entry))) (refusal (steps.releaseStep slotCount p h .answer)) ⌝ }
+    ensures { λ r. ⌜ r ≡ spec.numbered (p .slots) p (memories (now (pool .entry)) (now (overflow .entry))) (refusal (steps.releaseStep (p .slots) p h .answer)) ⌝ }
 {
     let number = guard(p, pool, overflow);
     if number != 0 {
@@ -146,24 +146,38 @@ fn release_cause(p: BufferPool, pool: &[u8], overflow: &[u8], h: Handle) -> u8
     0
 }
 
+// A refused new: the record of a new pool of the Rust's count of slots, whose two lengths are 0.
+fn new_refused(number: u8) -> Called
+    ensures { λ r. ⌜ r ≡ spec.newRefusedBy number ⌝ }
+{
+    steps::refused(
+        BufferPool::with_lengths(BufferPool::POOL_CAPACITY, 0, 0),
+        number,
+    )
+}
+
 impl BufferPool {
-    // A new pool: the pool memory is cleared, the overflow stays as it is. Refuses with 3 if either memory is longer than the
-    // byte limit, and then gives the record of a new pool whose two lengths are 0.
-    pub fn new(pool: &mut [u8], overflow: &[u8]) -> Called
-        ensures { λ r. ⌜ spec.outcome r (memories (now (pool .exit)) (now (overflow .entry))) [] ≡ spec.new slotCount (memories (now (pool .entry)) (now (overflow .entry))) ⌝ }
+    // A new pool of 8 or 16 slots: the pool memory is cleared, the overflow stays as it is. Refuses with 16 if the count is another,
+    // and with 3 if either memory is longer than the byte limit, and then gives the record of a new pool of 8 slots whose two lengths
+    // are 0.
+    pub fn new(slots: usize, pool: &mut [u8], overflow: &[u8]) -> Called
+        ensures { λ r. ⌜ spec.outcome r (memories (now (pool .exit)) (now (overflow .entry))) [] ≡ spec.new slots (memories (now (pool .entry)) (now (overflow .entry))) ⌝ }
     {
+        if !is_count(slots) {
+            return new_refused(refusals::WRONG_SLOT_COUNT);
+        }
         let n = pool.len();
         let capacity = n as u64;
         let length = overflow.len() as u64;
         if BufferPool::BYTE_LIMIT < capacity {
-            return steps::refused(BufferPool::with_lengths(0, 0), refusals::MEMORY_TOO_LONG);
+            return new_refused(refusals::MEMORY_TOO_LONG);
         }
         if BufferPool::BYTE_LIMIT < length {
-            return steps::refused(BufferPool::with_lengths(0, 0), refusals::MEMORY_TOO_LONG);
+            return new_refused(refusals::MEMORY_TOO_LONG);
         }
         fill_zero(pool, 0, n);
         Called {
-            pool: BufferPool::with_lengths(capacity, length),
+            pool: BufferPool::with_lengths(slots, capacity, length),
             answer: Answer::Done,
         }
     }
@@ -172,7 +186,7 @@ impl BufferPool {
     // and with 4 if the overflow would be used and is too short for frame and reservation. Bytes move only once that is known.
     // Most reserves that move no byte are found by a few tests and need no list of moves.
     pub fn reserve(self, pool: &mut [u8], overflow: &mut [u8], len: u64) -> Called
-        ensures { λ r. ⌜ spec.outcome r (memories (now (pool .exit)) (now (overflow .exit))) [] ≡ spec.reserve slotCount self (memories (now (pool .entry)) (now (overflow .entry))) len ⌝ }
+        ensures { λ r. ⌜ spec.outcome r (memories (now (pool .exit)) (now (overflow .exit))) [] ≡ spec.reserve (self .slots) self (memories (now (pool .entry)) (now (overflow .entry))) len ⌝ }
     {
         let number = guard(self, pool, overflow);
         if number != 0 {
@@ -200,7 +214,7 @@ impl BufferPool {
     // The first `n` bytes of the reservation join the frame: gives the frame's place. Refuses with 1, 2, and with 5 if `n` exceeds
     // the reservation.
     pub fn commit(self, pool: &[u8], overflow: &[u8], n: u64) -> Called
-        ensures { λ r. ⌜ spec.outcome r (memories (now (pool .entry)) (now (overflow .entry))) [] ≡ spec.commit slotCount self (memories (now (pool .entry)) (now (overflow .entry))) n ⌝ }
+        ensures { λ r. ⌜ spec.outcome r (memories (now (pool .entry)) (now (overflow .entry))) [] ≡ spec.commit (self .slots) self (memories (now (pool .entry)) (now (overflow .entry))) n ⌝ }
     {
         let number = commit_cause(self, pool, overflow, n);
         if number != 0 {
@@ -211,7 +225,7 @@ impl BufferPool {
 
     // The frame keeps at most its first `n` bytes: gives the frame's place. Refuses with 1 and 2.
     pub fn truncate(self, pool: &[u8], overflow: &[u8], n: u64) -> Called
-        ensures { λ r. ⌜ spec.outcome r (memories (now (pool .entry)) (now (overflow .entry))) [] ≡ spec.truncate slotCount self (memories (now (pool .entry)) (now (overflow .entry))) n ⌝ }
+        ensures { λ r. ⌜ spec.outcome r (memories (now (pool .entry)) (now (overflow .entry))) [] ≡ spec.truncate (self .slots) self (memories (now (pool .entry)) (now (overflow .entry))) n ⌝ }
     {
         let number = guard(self, pool, overflow);
         if number != 0 {
@@ -231,7 +245,7 @@ impl BufferPool {
         caller: u64,
         destination: &mut [u8],
     ) -> Called
-        ensures { λ r. ⌜ spec.outcome r (memories (now (pool .entry)) (now (overflow .exit))) (now (destination .exit)) ≡ spec.take slotCount self (memories (now (pool .entry)) (now (overflow .entry))) caller (now (destination .entry)) ⌝ }
+        ensures { λ r. ⌜ spec.outcome r (memories (now (pool .entry)) (now (overflow .exit))) (now (destination .exit)) ≡ spec.take (self .slots) self (memories (now (pool .entry)) (now (overflow .entry))) caller (now (destination .entry)) ⌝ }
     {
         let number = take_cause(self, pool, overflow, caller, destination.len() as u64);
         if number != 0 {
@@ -249,7 +263,7 @@ impl BufferPool {
 
     // The slot of the handle is free again. Refuses with 1, 2, and with 7 if the handle names no live slice.
     pub fn release(self, pool: &[u8], overflow: &[u8], h: Handle) -> Called
-        ensures { λ r. ⌜ spec.outcome r (memories (now (pool .entry)) (now (overflow .entry))) [] ≡ spec.release slotCount self (memories (now (pool .entry)) (now (overflow .entry))) h ⌝ }
+        ensures { λ r. ⌜ spec.outcome r (memories (now (pool .entry)) (now (overflow .entry))) [] ≡ spec.release (self .slots) self (memories (now (pool .entry)) (now (overflow .entry))) h ⌝ }
     {
         let number = release_cause(self, pool, overflow, h);
         if number != 0 {

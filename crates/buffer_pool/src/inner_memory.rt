@@ -6,7 +6,7 @@ ghost use Prim.Native.Nat as spec;
 ghost use lib.Dec.{leb};
 ghost use lib.ListN.{length};
 ghost use Rattle.laws.specs.Lists.{copied, moved, zeroed};
-ghost use Rattle.buffer_pool.specs.Record.{slotCount, after};
+ghost use Rattle.buffer_pool.specs.Record.{mostSlots, after};
 use crate::buffer_pool::BufferPool;
 
 // Do `used` and `len` bytes from `offset` on lie below `end`? Compared by subtraction, so that no sum can wrap:
@@ -25,11 +25,11 @@ pub(crate) fn in_bounds(end: u64, offset: u64, used: u64, len: u64) -> bool
 
 // The end of the slice of slot `len`, and 0 for no slot.
 pub(crate) fn raw_offset_from_len<'a>(
-    starts: &'a [u32; BufferPool::POOL_CAPACITY],
-    lengths: &'a [u32; BufferPool::POOL_CAPACITY],
+    starts: &'a [u32; BufferPool::MOST_SLOTS],
+    lengths: &'a [u32; BufferPool::MOST_SLOTS],
     len: usize,
 ) -> u64
-    requires { ⌜ len ≤ slotCount ⌝ }
+    requires { ⌜ len ≤ mostSlots ⌝ }
     ensures { λ r. ⌜ r ≡ after (now (starts .entry)) (now (lengths .entry)) len ⌝ }
 {
     if len == 0 {

@@ -5,11 +5,11 @@ ghost use mathlib.Core.Bool.{true, false, _&&_};
 ghost use Prim.Native.Nat.{_+_, _*_, _≤_, _<_};
 ghost use lib.Dec.{leb, ltb, eqb};
 ghost use Rattle.buffer_pool.specs.declared.buffer_pool.PoolMode.the-variants.{Back, Alloc};
-ghost use Rattle.buffer_pool.specs.Record.{slotCount, placed};
+ghost use Rattle.buffer_pool.specs.Record.{placed};
 ghost use Rattle.buffer_pool.specs.Moves.{within};
 ghost use Rattle.buffer_pool.specs.MoveList.{listed};
 ghost use Rattle.buffer_pool.specs.Placing as spec;
-ghost use Rattle.buffer_pool.specs.Deciding.{Placeable, Starts, Decides, layerOf, ahead, finished, following, keepsIn, fitsIn, settled, startsOver, growingHere, growing};
+ghost use Rattle.buffer_pool.specs.Deciding.{Worded, Placeable, Starts, Decides, layerOf, ahead, finished, following, keepsIn, fitsIn, settled, startsOver, growingHere, growing};
 use crate::buffer_pool::BufferPool;
 use crate::buffer_pool::PoolMode;
 use crate::inner_memory::in_bounds;
@@ -94,8 +94,8 @@ pub(crate) fn go_out(p: BufferPool, moves: Moves) -> ModeStep
 // Does the overflow keep the frame? It does if it was entered just now, if the frame is not empty, or if the back has no
 // slots or no tail to clear.
 fn stays(p: BufferPool, entered: bool) -> bool
-    requires { ⌜ p .«back_start» + p .«back_len» ≤ slotCount ⌝ }
-    ensures { λ r. ⌜ r ≡ spec.stays slotCount entered p ⌝ }
+    requires { ⌜ (Worded p) × (p .«back_start» + p .«back_len» ≤ p .slots) ⌝ }
+    ensures { λ r. ⌜ r ≡ spec.stays (p .slots) entered p ⌝ }
 {
     if entered {
         return true;
@@ -111,8 +111,8 @@ fn stays(p: BufferPool, entered: bool) -> bool
 
 // A frame that is in the overflow: it stays, or the tail or the head is cleared for it.
 fn reserve_from_system_memory(p: BufferPool, entered: bool, moves: Moves, len: u64) -> ModeStep
-    requires { ⌜ (p .mode ≡ Alloc) × (p .«back_start» + p .«back_len» ≤ slotCount) ⌝ }
-    ensures { λ r. ⌜ (layerOf r ≡ ahead (listed moves) (spec.allocLayer slotCount entered p len)) × (r .moves .count ≡ moves .count) ⌝ }
+    requires { ⌜ (p .mode ≡ Alloc) × (Worded p) × (p .«back_start» + p .«back_len» ≤ p .slots) ⌝ }
+    ensures { λ r. ⌜ (layerOf r ≡ ahead (listed moves) (spec.allocLayer (p .slots) entered p len)) × (r .moves .count ≡ moves .count) ⌝ }
 {
     if stays(p, entered) {
         return stay(p, moves);
@@ -130,8 +130,8 @@ fn reserve_from_system_memory(p: BufferPool, entered: bool, moves: Moves, len: u
 
 // One call of `reserve_`, in the mode that the pool is in.
 fn mode_step(p: BufferPool, entered: bool, moves: Moves, len: u64) -> ModeStep
-    requires { ⌜ (Placeable slotCount p) × (moves .count < 6) ⌝ }
-    ensures { λ r. ⌜ (layerOf r ≡ ahead (listed moves) (spec.layer slotCount entered (p .mode) p len)) × (r .moves .count ≤ moves .count + 2) ⌝ }
+    requires { ⌜ (Placeable (p .slots) p) × (moves .count < 6) ⌝ }
+    ensures { λ r. ⌜ (layerOf r ≡ ahead (listed moves) (spec.layer (p .slots) entered (p .mode) p len)) × (r .moves .count ≤ moves .count + 2) ⌝ }
 {
     let mode = p.mode;
     match mode {
@@ -223,8 +223,8 @@ fn reserve_(
     left: u32,
     len: u64,
 ) -> Decided
-    requires { ⌜ (Placeable slotCount p) × (moves .count + 2 * left < 7) × (changes + left ≤ 2) ⌝ }
-    ensures { λ r. ⌜ Decides r (following (listed moves) changes (spec.placeOf slotCount left entered (p .mode) p len)) len ⌝ }
+    requires { ⌜ (Placeable (p .slots) p) × (moves .count + 2 * left < 7) × (changes + left ≤ 2) ⌝ }
+    ensures { λ r. ⌜ Decides r (following (listed moves) changes (spec.placeOf (p .slots) left entered (p .mode) p len)) len ⌝ }
 {
     if left == 0 {
         return finish(p, moves, changes, len);
@@ -275,7 +275,7 @@ fn reset_in_pool(p: BufferPool) -> Start
 // The reset of a pool whose frame is in the overflow: to the pool's start, if it is strictly shorter than the pool.
 fn reset_in_overflow(p: BufferPool) -> Start
     requires { ⌜ p .cursor ≤ p .kept ⌝ }
-    ensures { λ r. ⌜ Starts r (spec.resetOn true (ltb (p .cursor) (p .capacity)) (eqb (p .cursor) 0) Alloc slotCount p) (spec.resetMoves true (ltb (p .cursor) (p .capacity)) (eqb (p .cursor) 0) Alloc p) ⌝ }
+    ensures { λ r. ⌜ Starts r (spec.resetOn true (ltb (p .cursor) (p .capacity)) (eqb (p .cursor) 0) Alloc p) (spec.resetMoves true (ltb (p .cursor) (p .capacity)) (eqb (p .cursor) 0) Alloc p) ⌝ }
 {
     let cursor = p.cursor;
     if p.capacity <= cursor {
@@ -302,7 +302,7 @@ fn reset_in_overflow(p: BufferPool) -> Start
 // The reset, by the mode that the pool is in.
 fn reset(p: BufferPool) -> Start
     requires { ⌜ (spec.isAlloc (p .mode) ≡ true → p .cursor ≤ p .kept) ⌝ }
-    ensures { λ r. ⌜ Starts r (spec.resetOn true (ltb (p .cursor) (p .capacity)) (eqb (p .cursor) 0) (p .mode) slotCount p) (spec.resetMoves true (ltb (p .cursor) (p .capacity)) (eqb (p .cursor) 0) (p .mode) p) ⌝ }
+    ensures { λ r. ⌜ Starts r (spec.resetOn true (ltb (p .cursor) (p .capacity)) (eqb (p .cursor) 0) (p .mode) p) (spec.resetMoves true (ltb (p .cursor) (p .capacity)) (eqb (p .cursor) 0) (p .mode) p) ⌝ }
 {
     let mode = p.mode;
     match mode {
@@ -314,8 +314,8 @@ fn reset(p: BufferPool) -> Start
 
 // Does the frame fit where it is, in its mode? In the overflow, within the kept bytes.
 fn fits(p: BufferPool, len: u64) -> bool
-    requires { ⌜ p .«back_start» + p .«back_len» ≤ slotCount ⌝ }
-    ensures { λ r. ⌜ r ≡ fitsIn (p .mode) slotCount p len ⌝ }
+    requires { ⌜ (Worded p) × (p .«back_start» + p .«back_len» ≤ p .slots) ⌝ }
+    ensures { λ r. ⌜ r ≡ fitsIn (p .mode) (p .slots) p len ⌝ }
 {
     let mode = p.mode;
     match mode {
@@ -327,22 +327,22 @@ fn fits(p: BufferPool, len: u64) -> bool
 
 // Does the overflow keep the frame? It does if it stays, or if the first and the last slot live, so that no clear can succeed.
 fn keeps(p: BufferPool) -> bool
-    requires { ⌜ p .«back_start» + p .«back_len» ≤ slotCount ⌝ }
-    ensures { λ r. ⌜ r ≡ keepsIn slotCount p ⌝ }
+    requires { ⌜ (Worded p) × (p .«back_start» + p .«back_len» ≤ p .slots) ⌝ }
+    ensures { λ r. ⌜ r ≡ keepsIn (p .slots) p ⌝ }
 {
     if stays(p, false) {
         return true;
     }
-    if leading(p.live) != 0 {
+    if leading(p.slots, p.live) != 0 {
         return false;
     }
-    trailing(p.live) == 0
+    trailing(p.slots, p.live) == 0
 }
 
 // Does the overflow keep the frame, with `len` bytes after it that are kept?
 fn kept_fits(p: BufferPool, len: u64) -> bool
-    requires { ⌜ p .«back_start» + p .«back_len» ≤ slotCount ⌝ }
-    ensures { λ r. ⌜ r ≡ (keepsIn slotCount p && leb (p .cursor + len + 0) (p .kept)) ⌝ }
+    requires { ⌜ (Worded p) × (p .«back_start» + p .«back_len» ≤ p .slots) ⌝ }
+    ensures { λ r. ⌜ r ≡ (keepsIn (p .slots) p && leb (p .cursor + len + 0) (p .kept)) ⌝ }
 {
     if !keeps(p) {
         return false;
@@ -352,8 +352,8 @@ fn kept_fits(p: BufferPool, len: u64) -> bool
 
 // Does the frame stay where it is, with no reset? Then a reserve moves no byte.
 pub(crate) fn is_settled(p: BufferPool, len: u64) -> bool
-    requires { ⌜ p .«back_start» + p .«back_len» ≤ slotCount ⌝ }
-    ensures { λ r. ⌜ r ≡ settled slotCount p len ⌝ }
+    requires { ⌜ (Worded p) × (p .«back_start» + p .«back_len» ≤ p .slots) ⌝ }
+    ensures { λ r. ⌜ r ≡ settled (p .slots) p len ⌝ }
 {
     if resets(p) {
         return false;
@@ -382,8 +382,8 @@ pub(crate) fn starts_over(p: BufferPool, len: u64) -> bool
 // Does the frame stay in the overflow, with no reset, and need zeros after the kept bytes, which the overflow has room for? Then a
 // reserve moves no byte and clears some.
 pub(crate) fn is_growing(p: BufferPool, len: u64) -> bool
-    requires { ⌜ p .«back_start» + p .«back_len» ≤ slotCount ⌝ }
-    ensures { λ r. ⌜ r ≡ growing slotCount p len ⌝ }
+    requires { ⌜ (Worded p) × (p .«back_start» + p .«back_len» ≤ p .slots) ⌝ }
+    ensures { λ r. ⌜ r ≡ growing (p .slots) p len ⌝ }
 {
     if resets(p) {
         return false;
@@ -398,8 +398,8 @@ pub(crate) fn is_growing(p: BufferPool, len: u64) -> bool
 
 // Does the overflow keep the frame, with `len` bytes after it that end past the kept ones and within the overflow?
 fn grows_here(p: BufferPool, len: u64) -> bool
-    requires { ⌜ p .«back_start» + p .«back_len» ≤ slotCount ⌝ }
-    ensures { λ r. ⌜ r ≡ growingHere slotCount p len ⌝ }
+    requires { ⌜ (Worded p) × (p .«back_start» + p .«back_len» ≤ p .slots) ⌝ }
+    ensures { λ r. ⌜ r ≡ growingHere (p .slots) p len ⌝ }
 {
     if !keeps(p) {
         return false;
@@ -412,8 +412,8 @@ fn grows_here(p: BufferPool, len: u64) -> bool
 
 // The whole decision of a reserve of `len` bytes.
 pub(crate) fn place(p: BufferPool, len: u64) -> Decided
-    requires { ⌜ (Placeable slotCount p) × (spec.isAlloc (p .mode) ≡ true → p .cursor ≤ p .kept) ⌝ }
-    ensures { λ r. ⌜ Decides r (spec.place slotCount p len) len ⌝ }
+    requires { ⌜ (Placeable (p .slots) p) × (spec.isAlloc (p .mode) ≡ true → p .cursor ≤ p .kept) ⌝ }
+    ensures { λ r. ⌜ Decides r (spec.place (p .slots) p len) len ⌝ }
 {
     if resets(p) {
         let start = reset(p);

@@ -4,11 +4,11 @@ ghost use mathlib.Core.Bool.{_&&_};
 ghost use Prim.Native.Nat.{_+_, _≤_, _<_};
 ghost use lib.Dec.{ltb};
 ghost use Rattle.laws.specs.Live.{lastLive};
-ghost use Rattle.buffer_pool.specs.Record.{slotCount};
+ghost use Rattle.buffer_pool.specs.Record.{mostSlots};
 ghost use Rattle.buffer_pool.specs.declared.buffer_pool.PoolMode.the-variants.{Front};
 ghost use Rattle.buffer_pool.specs.MoveList.{listed};
 ghost use Rattle.buffer_pool.specs.Placing as spec;
-ghost use Rattle.buffer_pool.specs.Deciding.{layerOf, ahead};
+ghost use Rattle.buffer_pool.specs.Deciding.{Worded, layerOf, ahead};
 use crate::buffer_pool::BufferPool;
 use crate::buffer_pool::PoolFront;
 use crate::buffer_pool::PoolMode;
@@ -35,8 +35,8 @@ pub(crate) fn front_fits(p: BufferPool, f: PoolFront, len: u64) -> bool
 
 // The front with its slots after `last`, its last live one, dropped: `try_clear_tail`.
 fn front_cleared(p: BufferPool, f: PoolFront, last: usize) -> BufferPool
-    requires { ⌜ (last ≡ lastLive slotCount (p .live) (f .len)) × (last ≤ slotCount) ⌝ }
-    ensures { λ r. ⌜ r ≡ spec.frontCleared slotCount p f ⌝ }
+    requires { ⌜ (last ≡ lastLive (p .slots) (p .live) (f .len)) × (last ≤ mostSlots) ⌝ }
+    ensures { λ r. ⌜ r ≡ spec.frontCleared (p .slots) p f ⌝ }
 {
     let starts = p.starts;
     let lengths = p.lengths;
@@ -57,8 +57,8 @@ fn front_cleared(p: BufferPool, f: PoolFront, last: usize) -> BufferPool
 
 // The front gives way: to the back by a tail clear, else to the overflow.
 fn leave(p: BufferPool, moves: Moves, len: u64) -> ModeStep
-    requires { ⌜ (p .«back_start» + p .«back_len» ≤ slotCount) × (p .cursor ≡ 0) × (moves .count < 7) ⌝ }
-    ensures { λ r. ⌜ layerOf r ≡ spec.leave slotCount p (listed moves) len ⌝ }
+    requires { ⌜ (Worded p) × (p .«back_start» + p .«back_len» ≤ p .slots) × (p .cursor ≡ 0) × (moves .count < 7) ⌝ }
+    ensures { λ r. ⌜ layerOf r ≡ spec.leave (p .slots) p (listed moves) len ⌝ }
     ensures { λ r. ⌜ r .moves .count ≤ moves .count + 1 ⌝ }
 {
     let start = p.raw_offset;
@@ -76,14 +76,14 @@ fn leave(p: BufferPool, moves: Moves, len: u64) -> ModeStep
 
 // A frame that is in the front: it stays, or it stays after the front's freed slots are dropped, or the front gives way.
 pub(crate) fn reserve(p: BufferPool, f: PoolFront, moves: Moves, len: u64) -> ModeStep
-    requires { ⌜ (p .mode ≡ Front f) × (p .«back_start» + p .«back_len» ≤ slotCount) × (p .cursor ≡ 0) × (f .len ≤ slotCount) × (moves .count < 6) ⌝ }
-    ensures { λ r. ⌜ layerOf r ≡ ahead (listed moves) (spec.frontLayer slotCount f p len) ⌝ }
+    requires { ⌜ (p .mode ≡ Front f) × (Worded p) × (p .«back_start» + p .«back_len» ≤ p .slots) × (p .cursor ≡ 0) × (f .len ≤ p .slots) × (moves .count < 6) ⌝ }
+    ensures { λ r. ⌜ layerOf r ≡ ahead (listed moves) (spec.frontLayer (p .slots) f p len) ⌝ }
     ensures { λ r. ⌜ r .moves .count ≤ moves .count + 2 ⌝ }
 {
     if front_fits(p, f, len) {
         return stay(p, moves);
     }
-    let last = last_front(p.live, f.len);
+    let last = last_front(p.slots, p.live, f.len);
     if f.len <= last {
         return leave(p, moves, len);
     }

@@ -18,3 +18,5 @@ pub const NOT_LIVE: u8 = 7;
 pub const NO_SERIALS: u8 = 8;
 // take: the caller is above 3
 pub const UNKNOWN_CALLER: u8 = 12;
+// new: the slot count is neither 8 nor 16
+pub const WRONG_SLOT_COUNT: u8 = 16;

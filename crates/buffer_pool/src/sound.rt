@@ -1,8 +1,8 @@
 // The soundness test: one pass over the slots, and a test of the other numbers.
 ghost use mathlib.Core.Path.{_≡_};
 ghost use mathlib.Core.Bool.{true};
-ghost use Prim.Native.Nat.{_+_, _≤_, _<_};
-ghost use Rattle.buffer_pool.specs.Record.{slotCount};
+ghost use Prim.Native.Nat.{_+_, _≤_, _<_, _^_};
+ghost use Rattle.buffer_pool.specs.Record.{mostSlots};
 ghost use Rattle.buffer_pool.specs.Soundness as spec;
 ghost use Rattle.buffer_pool.specs.SlotPass.{boundsOf, slotSound, slotPass, passes, numbersSound};
 use crate::buffer_pool::BufferPool;
@@ -63,18 +63,19 @@ fn slot_sound(b: Bounds, p: usize, start: u64, stop: u64, end: u64) -> bool
 
 // One slot, of index `i`.
 fn slot_pass<'a>(
-    starts: &'a [u32; BufferPool::POOL_CAPACITY],
-    lengths: &'a [u32; BufferPool::POOL_CAPACITY],
-    live: u8,
+    starts: &'a [u32; BufferPool::MOST_SLOTS],
+    lengths: &'a [u32; BufferPool::MOST_SLOTS],
+    slots: usize,
+    live: u16,
     b: Bounds,
     i: usize,
     end: u64,
 ) -> Passed
-    requires { ⌜ i < slotCount ⌝ }
-    ensures { λ r. ⌜ r ≡ slotPass (now (starts .entry)) (now (lengths .entry)) live b i end ⌝ }
+    requires { ⌜ (i < slots) × (slots ≤ mostSlots) ⌝ }
+    ensures { λ r. ⌜ r ≡ slotPass slots (now (starts .entry)) (now (lengths .entry)) live b i end ⌝ }
 {
     let p = i + 1;
-    if !is_live(live, p as u8) {
+    if !is_live(slots, live, p) {
         return Passed {
             sound: true,
             end: end,
@@ -90,18 +91,20 @@ fn slot_pass<'a>(
 
 // The slots up to the last live one; those above it are free.
 pub(crate) fn slots_sound<'a>(
-    starts: &'a [u32; BufferPool::POOL_CAPACITY],
-    lengths: &'a [u32; BufferPool::POOL_CAPACITY],
-    live: u8,
+    starts: &'a [u32; BufferPool::MOST_SLOTS],
+    lengths: &'a [u32; BufferPool::MOST_SLOTS],
+    slots: usize,
+    live: u16,
     b: Bounds,
 ) -> bool
-    ensures { λ r. ⌜ r ≡ passes (now (starts .entry)) (now (lengths .entry)) live b slotCount 0 0 ⌝ }
+    requires { ⌜ (slots ≤ mostSlots) × (live < 2 ^ slots) ⌝ }
+    ensures { λ r. ⌜ r ≡ passes slots (now (starts .entry)) (now (lengths .entry)) live b slots 0 0 ⌝ }
 {
-    let last = BufferPool::POOL_CAPACITY - trailing(live);
+    let last = slots - trailing(slots, live);
     let mut i = 0;
     let mut end = 0;
     while i < last {
-        let slot = slot_pass(starts, lengths, live, b, i, end);
+        let slot = slot_pass(starts, lengths, slots, live, b, i, end);
         if !slot.sound {
             return false;
         }
@@ -111,9 +114,34 @@ pub(crate) fn slots_sound<'a>(
     true
 }
 
-// Is no memory longer than the limit? That the arrays have a place for every slot, the types say.
+// Can a pool have so many slots?
+pub(crate) fn is_count(slots: usize) -> bool
+    ensures { λ r. ⌜ r ≡ spec.isCount slots ⌝ }
+{
+    if slots == BufferPool::POOL_CAPACITY {
+        return true;
+    }
+    slots == BufferPool::MOST_SLOTS
+}
+
+// Is the slot count 8 or 16, and the live word that wide? That the arrays have a place for every slot, the types say.
+fn shaped(p: BufferPool) -> bool
+    ensures { λ r. ⌜ r ≡ spec.shaped (p .slots) p ⌝ }
+{
+    let slots = p.slots;
+    let live = p.live;
+    if slots == BufferPool::MOST_SLOTS {
+        return true;
+    }
+    if slots != BufferPool::POOL_CAPACITY {
+        return false;
+    }
+    live < 256
+}
+
+// Is no memory longer than the limit?
 fn limited(p: BufferPool) -> bool
-    ensures { λ r. ⌜ (r ≡ spec.limited p) × (spec.shaped slotCount p ≡ true) ⌝ }
+    ensures { λ r. ⌜ r ≡ spec.limited p ⌝ }
 {
     if BufferPool::BYTE_LIMIT < p.capacity {
         return false;
@@ -123,17 +151,17 @@ fn limited(p: BufferPool) -> bool
 
 // Do the numbers of the back, and the kept length, lie in their bounds?
 fn counted(p: BufferPool) -> bool
-    ensures { λ r. ⌜ r ≡ spec.counted slotCount p ⌝ }
+    ensures { λ r. ⌜ r ≡ spec.counted (p .slots) p ⌝ }
 {
     let back_start = p.back_start;
     let back_len = p.back_len;
     if p.overflow < p.kept {
         return false;
     }
-    if BufferPool::POOL_CAPACITY <= back_start {
+    if p.slots <= back_start {
         return false;
     }
-    if BufferPool::POOL_CAPACITY - back_start < back_len {
+    if p.slots - back_start < back_len {
         return false;
     }
     if 0 < p.capacity {
@@ -160,8 +188,8 @@ fn framed_within(p: BufferPool, bytes: u64, slot_left: bool) -> bool
 
 // The numbers of a pool in the back.
 fn back_numbers(p: BufferPool) -> bool
-    requires { ⌜ p .«back_start» + p .«back_len» ≤ slotCount ⌝ }
-    ensures { λ r. ⌜ r ≡ spec.backNumbers slotCount p ⌝ }
+    requires { ⌜ p .«back_start» + p .«back_len» ≤ p .slots ⌝ }
+    ensures { λ r. ⌜ r ≡ spec.backNumbers (p .slots) p ⌝ }
 {
     let last = p.back_start + p.back_len;
     if p.used != last {
@@ -170,18 +198,18 @@ fn back_numbers(p: BufferPool) -> bool
     if p.cursor != 0 {
         return false;
     }
-    framed_within(p, p.capacity, last < BufferPool::POOL_CAPACITY)
+    framed_within(p, p.capacity, last < p.slots)
 }
 
 // The numbers of a pool in the front.
 fn front_numbers(p: BufferPool, f: PoolFront) -> bool
-    requires { ⌜ p .«back_start» + p .«back_len» ≤ slotCount ⌝ }
-    ensures { λ r. ⌜ r ≡ spec.frontNumbers slotCount p f ⌝ }
+    requires { ⌜ p .«back_start» + p .«back_len» ≤ p .slots ⌝ }
+    ensures { λ r. ⌜ r ≡ spec.frontNumbers (p .slots) p f ⌝ }
 {
     let slots = f.back_start;
     let len = f.len;
     let bytes = f.byte_capacity;
-    if p.back_start + p.back_len != BufferPool::POOL_CAPACITY {
+    if p.back_start + p.back_len != p.slots {
         return false;
     }
     if slots < 1 {
@@ -226,8 +254,8 @@ struct Numbers {
 
 // The test of the numbers, by the mode, with the bounds that the slots are measured against.
 fn mode_numbers(p: BufferPool) -> Numbers
-    requires { ⌜ p .«back_start» + p .«back_len» ≤ slotCount ⌝ }
-    ensures { λ r. ⌜ (r .sound ≡ numbersSound (p .mode) p) × (r .bounds ≡ boundsOf (p .mode) p) ⌝ }
+    requires { ⌜ p .«back_start» + p .«back_len» ≤ p .slots ⌝ }
+    ensures { λ r. ⌜ (r .sound ≡ numbersSound (p .slots) (p .mode) p) × (r .bounds ≡ boundsOf (p .slots) (p .mode) p) ⌝ }
 {
     let most = p.back_start + p.back_len;
     let mode = p.mode;
@@ -237,9 +265,9 @@ fn mode_numbers(p: BufferPool) -> Numbers
             bounds: Bounds {
                 most: most,
                 capacity: p.capacity,
-                own: BufferPool::POOL_CAPACITY,
+                own: p.slots,
                 offset: p.raw_offset,
-                above: BufferPool::POOL_CAPACITY,
+                above: p.slots,
                 bytes: 0,
             },
         },
@@ -271,8 +299,11 @@ fn mode_numbers(p: BufferPool) -> Numbers
 impl BufferPool {
     // Does the record pass the soundness test?
     pub fn is_sound(self) -> bool
-        ensures { λ r. ⌜ r ≡ spec.sound slotCount self ⌝ }
+        ensures { λ r. ⌜ r ≡ spec.sound (self .slots) self ⌝ }
     {
+        if !shaped(self) {
+            return false;
+        }
         if !limited(self) {
             return false;
         }
@@ -285,6 +316,6 @@ impl BufferPool {
         }
         let starts = self.starts;
         let lengths = self.lengths;
-        slots_sound(&starts, &lengths, self.live, n.bounds)
+        slots_sound(&starts, &lengths, self.slots, self.live, n.bounds)
     }
 }

@@ -2,10 +2,11 @@
 ghost use mathlib.Core.Path.{_≡_};
 ghost use Prim.Native.Nat.{_+_, _≤_, _<_};
 ghost use lib.Dec.{leb, ltb};
-ghost use Rattle.buffer_pool.specs.Record.{slotCount, callerCount};
+ghost use Rattle.buffer_pool.specs.Record.{mostSlots, callerCount};
 ghost use Rattle.buffer_pool.specs.Sound.{Orderly};
 ghost use Rattle.buffer_pool.specs.Placing.{isAlloc};
 ghost use Rattle.buffer_pool.specs.Values.{refusal};
+ghost use Rattle.buffer_pool.specs.Deciding.{Worded};
 ghost use Rattle.buffer_pool.specs.Steps as spec;
 use crate::buffer_pool::Answer;
 use crate::buffer_pool::BufferPool;
@@ -81,7 +82,7 @@ fn reframed(p: BufferPool) -> Called
 
 // Commit: the first `n` bytes of the reservation join the frame.
 pub(crate) fn commit_step(p: BufferPool, n: u64) -> Called
-    requires { ⌜ Orderly slotCount p ⌝ }
+    requires { ⌜ Orderly (p .slots) p ⌝ }
     ensures { λ r. ⌜ r ≡ spec.commitStep p n ⌝ }
 {
     if p.reserved < n {
@@ -114,8 +115,8 @@ fn given_to(p: BufferPool, caller: usize) -> u32
 // The frame as the slice of the next slot, with the caller's next serial; an empty frame begins after it:
 // `InnerMemory::get_data_owned`.
 fn hand_out(p: BufferPool, caller: usize, mode: PoolMode, back_len: usize) -> BufferPool
-    requires { ⌜ (p .used < slotCount) × (p .«raw_offset» + p .«raw_len» ≤ 4294967295) × (caller < callerCount) × (spec.givenTo p caller < 4294967295) ⌝ }
-    ensures { λ r. ⌜ r ≡ spec.handedOut slotCount caller p mode «back_len» ⌝ }
+    requires { ⌜ (p .used < p .slots) × (p .slots ≤ mostSlots) × (p .«raw_offset» + p .«raw_len» ≤ 4294967295) × (caller < callerCount) × (spec.givenTo p caller < 4294967295) ⌝ }
+    ensures { λ r. ⌜ r ≡ spec.handedOut (p .slots) caller p mode «back_len» ⌝ }
 {
     let k = p.used;
     let serial = given_to(p, caller) + 1;
@@ -133,7 +134,8 @@ fn hand_out(p: BufferPool, caller: usize, mode: PoolMode, back_len: usize) -> Bu
     BufferPool {
         capacity: p.capacity,
         overflow: p.overflow,
-        live: claim(p.live, position as u8),
+        slots: p.slots,
+        live: claim(p.slots, p.live, position),
         starts: starts,
         lengths: lengths,
         serials: serials,
@@ -153,8 +155,8 @@ fn hand_out(p: BufferPool, caller: usize, mode: PoolMode, back_len: usize) -> Bu
 
 // A caller's take of a non-empty frame of the pool.
 fn take_pooled(p: BufferPool, caller: usize, mode: PoolMode, back_len: usize) -> Called
-    requires { ⌜ (p .used < slotCount) × (p .«raw_offset» + p .«raw_len» ≤ 4294967295) × (caller < callerCount) ⌝ }
-    ensures { λ r. ⌜ r ≡ spec.pooled (leb 4294967295 (spec.givenTo p caller)) slotCount caller p mode «back_len» ⌝ }
+    requires { ⌜ (p .used < p .slots) × (p .slots ≤ mostSlots) × (p .«raw_offset» + p .«raw_len» ≤ 4294967295) × (caller < callerCount) ⌝ }
+    ensures { λ r. ⌜ r ≡ spec.pooled (leb 4294967295 (spec.givenTo p caller)) (p .slots) caller p mode «back_len» ⌝ }
 {
     let last = given_to(p, caller);
     if 4294967295 <= last {
@@ -197,7 +199,7 @@ fn take_copied(p: BufferPool, destination: u64) -> Called
 
 // The number that a caller's take to a destination of this length is refused with, or 0.
 pub(crate) fn take_refusal(p: BufferPool, caller: u64, destination: u64) -> u8
-    ensures { λ r. ⌜ r ≡ refusal (spec.takeStep slotCount p caller destination .answer) ⌝ }
+    ensures { λ r. ⌜ r ≡ refusal (spec.takeStep (p .slots) p caller destination .answer) ⌝ }
 {
     let c = caller as usize;
     if BufferPool::CALLERS <= c {
@@ -233,8 +235,8 @@ fn in_overflow(p: BufferPool) -> bool
 
 // Take: the frame becomes a slice of the pool, with a serial of this caller, or is copied to a destination of this length.
 pub(crate) fn take_step(p: BufferPool, caller: u64, destination: u64) -> Called
-    requires { ⌜ (Orderly slotCount p) × (p .capacity ≤ 4294967295) ⌝ }
-    ensures { λ r. ⌜ r ≡ spec.takeStep slotCount p caller destination ⌝ }
+    requires { ⌜ (Orderly (p .slots) p) × (p .capacity ≤ 4294967295) ⌝ }
+    ensures { λ r. ⌜ r ≡ spec.takeStep (p .slots) p caller destination ⌝ }
 {
     let c = caller as usize;
     if BufferPool::CALLERS <= c {
@@ -266,33 +268,35 @@ pub(crate) fn take_step(p: BufferPool, caller: u64, destination: u64) -> Called
 
 // Does the handle name a live slot, with that slot's start, length, serial and caller, which is one of the callers?
 pub(crate) fn names(p: BufferPool, h: Handle) -> bool
-    ensures { λ r. ⌜ r ≡ spec.names slotCount p h ⌝ }
+    requires { ⌜ p .slots ≤ mostSlots ⌝ }
+    ensures { λ r. ⌜ r ≡ spec.names (p .slots) p h ⌝ }
 {
     let slot = h.slot;
     if slot < 1 {
         return false;
     }
-    if BufferPool::POOL_CAPACITY < slot as usize {
+    let i = slot as usize;
+    if p.slots < i {
         return false;
     }
-    if !is_live(p.live, slot) {
+    if !is_live(p.slots, p.live, i) {
         return false;
     }
-    let i = slot as usize - 1;
+    let k = i - 1;
     let starts = p.starts;
-    if h.start != starts[i] {
+    if h.start != starts[k] {
         return false;
     }
     let lengths = p.lengths;
-    if h.length != lengths[i] {
+    if h.length != lengths[k] {
         return false;
     }
     let serials = p.serials;
-    if h.serial != serials[i] {
+    if h.serial != serials[k] {
         return false;
     }
     let callers = p.callers;
-    if h.caller != callers[i] {
+    if h.caller != callers[k] {
         return false;
     }
     (h.caller as usize) < BufferPool::CALLERS
@@ -300,13 +304,14 @@ pub(crate) fn names(p: BufferPool, h: Handle) -> bool
 
 // Release: the slot of the handle is free.
 pub(crate) fn release_step(p: BufferPool, h: Handle) -> Called
-    ensures { λ r. ⌜ r ≡ spec.releaseStep slotCount p h ⌝ }
+    requires { ⌜ Worded p ⌝ }
+    ensures { λ r. ⌜ r ≡ spec.releaseStep (p .slots) p h ⌝ }
 {
     if !names(p, h) {
         return refused(p, refusals::NOT_LIVE);
     }
     let mut q = p;
-    q.live = release(p.live, h.slot);
+    q.live = release(p.slots, p.live, h.slot as usize);
     Called {
         pool: q,
         answer: Answer::Done,

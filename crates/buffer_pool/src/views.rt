@@ -7,7 +7,6 @@ ghost use lib.ListN.{length, set};
 ghost use denote.Ref.{ptr};
 ghost use Rattle.laws.specs.Tests.{pick};
 ghost use Rattle.laws.specs.Lists as lists;
-ghost use Rattle.buffer_pool.specs.Record.{slotCount};
 ghost use Rattle.buffer_pool.specs.Moves.{memories};
 ghost use Rattle.buffer_pool.specs.Calls as spec;
 use crate::buffer_pool::BufferPool;
@@ -116,7 +115,7 @@ fn write(pool: &mut [u8], overflow: &mut [u8], place: Place, index: u64, byte: u
 impl BufferPool {
     // Where the frame lies, by mode in the pool memory or in the overflow. Refused with 1 and 2.
     pub fn frame_view(self, pool: &[u8], overflow: &[u8]) -> View
-        ensures { λ r. ⌜ r ≡ spec.frameView slotCount self (memories (now (pool .entry)) (now (overflow .entry))) ⌝ }
+        ensures { λ r. ⌜ r ≡ spec.frameView (self .slots) self (memories (now (pool .entry)) (now (overflow .entry))) ⌝ }
     {
         let number = guard(self, pool, overflow);
         if number != 0 {
@@ -127,7 +126,7 @@ impl BufferPool {
 
     // Where the reservation lies: after the frame, in the same memory. Refused with 1 and 2.
     pub fn reservation_view(self, pool: &[u8], overflow: &[u8]) -> View
-        ensures { λ r. ⌜ r ≡ spec.reservationView slotCount self (memories (now (pool .entry)) (now (overflow .entry))) ⌝ }
+        ensures { λ r. ⌜ r ≡ spec.reservationView (self .slots) self (memories (now (pool .entry)) (now (overflow .entry))) ⌝ }
     {
         let number = guard(self, pool, overflow);
         if number != 0 {
@@ -138,7 +137,7 @@ impl BufferPool {
 
     // Where the slice of a handle lies. Refused with 1, 2, and with 7 if the handle names no live slice.
     pub fn slice_view(self, pool: &[u8], overflow: &[u8], h: Handle) -> View
-        ensures { λ r. ⌜ r ≡ spec.sliceView slotCount self (memories (now (pool .entry)) (now (overflow .entry))) h ⌝ }
+        ensures { λ r. ⌜ r ≡ spec.sliceView (self .slots) self (memories (now (pool .entry)) (now (overflow .entry))) h ⌝ }
     {
         let number = guard(self, pool, overflow);
         if number != 0 {
@@ -156,8 +155,8 @@ impl BufferPool {
 
     // The frame, a part of the pool memory or of the overflow by mode. Refused with 1 and 2 (`frame_number`).
     pub fn frame<'a>(self, pool: &'a [u8], overflow: &'a [u8]) -> &'a [u8]
-        ensures { λ r. ⌜ now r ≡ spec.bytesAt (memories (now (pool .entry)) (now (overflow .entry))) (spec.frameView slotCount self (memories (now (pool .entry)) (now (overflow .entry))) .place) ⌝ }
-        ensures { λ r. ⌜ ptr r ≡ spec.placeAt (ptr (pool .entry)) (ptr (overflow .entry)) (spec.frameView slotCount self (memories (now (pool .entry)) (now (overflow .entry))) .place) ⌝ }
+        ensures { λ r. ⌜ now r ≡ spec.bytesAt (memories (now (pool .entry)) (now (overflow .entry))) (spec.frameView (self .slots) self (memories (now (pool .entry)) (now (overflow .entry))) .place) ⌝ }
+        ensures { λ r. ⌜ ptr r ≡ spec.placeAt (ptr (pool .entry)) (ptr (overflow .entry)) (spec.frameView (self .slots) self (memories (now (pool .entry)) (now (overflow .entry))) .place) ⌝ }
     {
         let v = self.frame_view(pool, overflow);
         view(pool, overflow, v.place)
@@ -165,8 +164,8 @@ impl BufferPool {
 
     // The same, to be written.
     pub fn frame_mut<'a>(self, pool: &'a mut [u8], overflow: &'a mut [u8]) -> &'a mut [u8]
-        ensures { λ r. ⌜ now r ≡ spec.bytesAt (memories (now (pool .entry)) (now (overflow .entry))) (spec.frameView slotCount self (memories (now (pool .entry)) (now (overflow .entry))) .place) ⌝ }
-        ensures { λ r. ⌜ ptr r ≡ spec.placeAt (ptr (pool .entry)) (ptr (overflow .entry)) (spec.frameView slotCount self (memories (now (pool .entry)) (now (overflow .entry))) .place) ⌝ }
+        ensures { λ r. ⌜ now r ≡ spec.bytesAt (memories (now (pool .entry)) (now (overflow .entry))) (spec.frameView (self .slots) self (memories (now (pool .entry)) (now (overflow .entry))) .place) ⌝ }
+        ensures { λ r. ⌜ ptr r ≡ spec.placeAt (ptr (pool .entry)) (ptr (overflow .entry)) (spec.frameView (self .slots) self (memories (now (pool .entry)) (now (overflow .entry))) .place) ⌝ }
     {
         let v = self.frame_view(pool, overflow);
         view_mut(pool, overflow, v.place)
@@ -174,7 +173,7 @@ impl BufferPool {
 
     // The number of the refusal of a view of the frame, or 0.
     pub fn frame_number(self, pool: &[u8], overflow: &[u8]) -> u8
-        ensures { λ r. ⌜ r ≡ spec.frameView slotCount self (memories (now (pool .entry)) (now (overflow .entry))) .number ⌝ }
+        ensures { λ r. ⌜ r ≡ spec.frameView (self .slots) self (memories (now (pool .entry)) (now (overflow .entry))) .number ⌝ }
     {
         let v = self.frame_view(pool, overflow);
         v.number
@@ -182,8 +181,8 @@ impl BufferPool {
 
     // Sets byte `index` of the frame; past its end, none. Gives the number of the view's refusal, or 0: refused with 1 and 2.
     pub fn write_frame(self, pool: &mut [u8], overflow: &mut [u8], index: u64, byte: u8) -> u8
-        ensures { λ r. ⌜ r ≡ spec.frameView slotCount self (memories (now (pool .entry)) (now (overflow .entry))) .number ⌝ }
-        ensures { λ _. ⌜ memories (now (pool .exit)) (now (overflow .exit)) ≡ spec.written (memories (now (pool .entry)) (now (overflow .entry))) (spec.frameView slotCount self (memories (now (pool .entry)) (now (overflow .entry))) .place) index byte ⌝ }
+        ensures { λ r. ⌜ r ≡ spec.frameView (self .slots) self (memories (now (pool .entry)) (now (overflow .entry))) .number ⌝ }
+        ensures { λ _. ⌜ memories (now (pool .exit)) (now (overflow .exit)) ≡ spec.written (memories (now (pool .entry)) (now (overflow .entry))) (spec.frameView (self .slots) self (memories (now (pool .entry)) (now (overflow .entry))) .place) index byte ⌝ }
     {
         let v = self.frame_view(pool, overflow);
         write(pool, overflow, v.place, index, byte);
@@ -192,8 +191,8 @@ impl BufferPool {
 
     // The reservation, after the frame in the same memory. Refused with 1 and 2 (`reservation_number`).
     pub fn reservation<'a>(self, pool: &'a [u8], overflow: &'a [u8]) -> &'a [u8]
-        ensures { λ r. ⌜ now r ≡ spec.bytesAt (memories (now (pool .entry)) (now (overflow .entry))) (spec.reservationView slotCount self (memories (now (pool .entry)) (now (overflow .entry))) .place) ⌝ }
-        ensures { λ r. ⌜ ptr r ≡ spec.placeAt (ptr (pool .entry)) (ptr (overflow .entry)) (spec.reservationView slotCount self (memories (now (pool .entry)) (now (overflow .entry))) .place) ⌝ }
+        ensures { λ r. ⌜ now r ≡ spec.bytesAt (memories (now (pool .entry)) (now (overflow .entry))) (spec.reservationView (self .slots) self (memories (now (pool .entry)) (now (overflow .entry))) .place) ⌝ }
+        ensures { λ r. ⌜ ptr r ≡ spec.placeAt (ptr (pool .entry)) (ptr (overflow .entry)) (spec.reservationView (self .slots) self (memories (now (pool .entry)) (now (overflow .entry))) .place) ⌝ }
     {
         let v = self.reservation_view(pool, overflow);
         view(pool, overflow, v.place)
@@ -201,8 +200,8 @@ impl BufferPool {
 
     // The same, to be written.
     pub fn reservation_mut<'a>(self, pool: &'a mut [u8], overflow: &'a mut [u8]) -> &'a mut [u8]
-        ensures { λ r. ⌜ now r ≡ spec.bytesAt (memories (now (pool .entry)) (now (overflow .entry))) (spec.reservationView slotCount self (memories (now (pool .entry)) (now (overflow .entry))) .place) ⌝ }
-        ensures { λ r. ⌜ ptr r ≡ spec.placeAt (ptr (pool .entry)) (ptr (overflow .entry)) (spec.reservationView slotCount self (memories (now (pool .entry)) (now (overflow .entry))) .place) ⌝ }
+        ensures { λ r. ⌜ now r ≡ spec.bytesAt (memories (now (pool .entry)) (now (overflow .entry))) (spec.reservationView (self .slots) self (memories (now (pool .entry)) (now (overflow .entry))) .place) ⌝ }
+        ensures { λ r. ⌜ ptr r ≡ spec.placeAt (ptr (pool .entry)) (ptr (overflow .entry)) (spec.reservationView (self .slots) self (memories (now (pool .entry)) (now (overflow .entry))) .place) ⌝ }
     {
         let v = self.reservation_view(pool, overflow);
         view_mut(pool, overflow, v.place)
@@ -210,7 +209,7 @@ impl BufferPool {
 
     // The number of the refusal of a view of the reservation, or 0.
     pub fn reservation_number(self, pool: &[u8], overflow: &[u8]) -> u8
-        ensures { λ r. ⌜ r ≡ spec.reservationView slotCount self (memories (now (pool .entry)) (now (overflow .entry))) .number ⌝ }
+        ensures { λ r. ⌜ r ≡ spec.reservationView (self .slots) self (memories (now (pool .entry)) (now (overflow .entry))) .number ⌝ }
     {
         let v = self.reservation_view(pool, overflow);
         v.number
@@ -218,8 +217,8 @@ impl BufferPool {
 
     // Sets byte `index` of the reservation; past its end, none. Gives the number of the view's refusal, or 0: refused with 1 and 2.
     pub fn write_reservation(self, pool: &mut [u8], overflow: &mut [u8], index: u64, byte: u8) -> u8
-        ensures { λ r. ⌜ r ≡ spec.reservationView slotCount self (memories (now (pool .entry)) (now (overflow .entry))) .number ⌝ }
-        ensures { λ _. ⌜ memories (now (pool .exit)) (now (overflow .exit)) ≡ spec.written (memories (now (pool .entry)) (now (overflow .entry))) (spec.reservationView slotCount self (memories (now (pool .entry)) (now (overflow .entry))) .place) index byte ⌝ }
+        ensures { λ r. ⌜ r ≡ spec.reservationView (self .slots) self (memories (now (pool .entry)) (now (overflow .entry))) .number ⌝ }
+        ensures { λ _. ⌜ memories (now (pool .exit)) (now (overflow .exit)) ≡ spec.written (memories (now (pool .entry)) (now (overflow .entry))) (spec.reservationView (self .slots) self (memories (now (pool .entry)) (now (overflow .entry))) .place) index byte ⌝ }
     {
         let v = self.reservation_view(pool, overflow);
         write(pool, overflow, v.place, index, byte);
@@ -229,8 +228,8 @@ impl BufferPool {
     // The slice of a handle, a part of the pool memory; the overflow is only measured. Refused with 1, 2, and with 7 if the handle
     // names no live slice (`slice_number`).
     pub fn slice<'a>(self, pool: &'a [u8], overflow: &[u8], h: Handle) -> &'a [u8]
-        ensures { λ r. ⌜ now r ≡ spec.bytesAt (memories (now (pool .entry)) (now (overflow .entry))) (spec.sliceView slotCount self (memories (now (pool .entry)) (now (overflow .entry))) h .place) ⌝ }
-        ensures { λ r. ⌜ ptr r ≡ spec.placeAt (ptr (pool .entry)) (ptr (overflow .entry)) (spec.sliceView slotCount self (memories (now (pool .entry)) (now (overflow .entry))) h .place) ⌝ }
+        ensures { λ r. ⌜ now r ≡ spec.bytesAt (memories (now (pool .entry)) (now (overflow .entry))) (spec.sliceView (self .slots) self (memories (now (pool .entry)) (now (overflow .entry))) h .place) ⌝ }
+        ensures { λ r. ⌜ ptr r ≡ spec.placeAt (ptr (pool .entry)) (ptr (overflow .entry)) (spec.sliceView (self .slots) self (memories (now (pool .entry)) (now (overflow .entry))) h .place) ⌝ }
     {
         let v = self.slice_view(pool, overflow, h);
         part(pool, v.place)
@@ -238,8 +237,8 @@ impl BufferPool {
 
     // The same, to be written.
     pub fn slice_mut<'a>(self, pool: &'a mut [u8], overflow: &[u8], h: Handle) -> &'a mut [u8]
-        ensures { λ r. ⌜ now r ≡ spec.bytesAt (memories (now (pool .entry)) (now (overflow .entry))) (spec.sliceView slotCount self (memories (now (pool .entry)) (now (overflow .entry))) h .place) ⌝ }
-        ensures { λ r. ⌜ ptr r ≡ spec.placeAt (ptr (pool .entry)) (ptr (overflow .entry)) (spec.sliceView slotCount self (memories (now (pool .entry)) (now (overflow .entry))) h .place) ⌝ }
+        ensures { λ r. ⌜ now r ≡ spec.bytesAt (memories (now (pool .entry)) (now (overflow .entry))) (spec.sliceView (self .slots) self (memories (now (pool .entry)) (now (overflow .entry))) h .place) ⌝ }
+        ensures { λ r. ⌜ ptr r ≡ spec.placeAt (ptr (pool .entry)) (ptr (overflow .entry)) (spec.sliceView (self .slots) self (memories (now (pool .entry)) (now (overflow .entry))) h .place) ⌝ }
     {
         let v = self.slice_view(pool, overflow, h);
         part_mut(pool, v.place)
@@ -247,7 +246,7 @@ impl BufferPool {
 
     // The number of the refusal of a view of the handle's slice, or 0.
     pub fn slice_number(self, pool: &[u8], overflow: &[u8], h: Handle) -> u8
-        ensures { λ r. ⌜ r ≡ spec.sliceView slotCount self (memories (now (pool .entry)) (now (overflow .entry))) h .number ⌝ }
+        ensures { λ r. ⌜ r ≡ spec.sliceView (self .slots) self (memories (now (pool .entry)) (now (overflow .entry))) h .number ⌝ }
     {
         let v = self.slice_view(pool, overflow, h);
         v.number
@@ -263,8 +262,8 @@ impl BufferPool {
         index: u64,
         byte: u8,
     ) -> u8
-        ensures { λ r. ⌜ r ≡ spec.sliceView slotCount self (memories (now (pool .entry)) (now (overflow .entry))) h .number ⌝ }
-        ensures { λ _. ⌜ memories (now (pool .exit)) (now (overflow .entry)) ≡ spec.written (memories (now (pool .entry)) (now (overflow .entry))) (spec.sliceView slotCount self (memories (now (pool .entry)) (now (overflow .entry))) h .place) index byte ⌝ }
+        ensures { λ r. ⌜ r ≡ spec.sliceView (self .slots) self (memories (now (pool .entry)) (now (overflow .entry))) h .number ⌝ }
+        ensures { λ _. ⌜ memories (now (pool .exit)) (now (overflow .entry)) ≡ spec.written (memories (now (pool .entry)) (now (overflow .entry))) (spec.sliceView (self .slots) self (memories (now (pool .entry)) (now (overflow .entry))) h .place) index byte ⌝ }
     {
         let v = self.slice_view(pool, overflow, h);
         set_byte(pool, v.place, index, byte);

@@ -37,26 +37,26 @@ module _ {A : Type 0} (result : Answer → A) (r : Record) (b : Bool) (e : b ≡
 
 -- what the direct call left on the pool's record is what the exported call leaves
 module _ (r : Record) (b : Bool) (e : b ≡ known r) (t : not b ≡ false) (p : BufferPool) (i : p ≡ poolOf r) (m : Memories) (c : Called) (after : Memories) (h : Record) (f : h ≡ recordAfter r (c .pool)) where
-  pub reserve-through : (len : ℕ) → outcome c after [] ≡ calls.reserve 8 p m len → (x : ReserveResult) → x ≡ reserveResult (c .answer) → left x h after [] ≡ reserve r m len
+  pub reserve-through : (len : ℕ) → outcome c after [] ≡ calls.reserve (p .slots) p m len → (x : ReserveResult) → x ≡ reserveResult (c .answer) → left x h after [] ≡ reserve r m len
   unfolding reserve
-  reserve-through len g x k = through reserveResult r b e m [] _ x t c after [] (g ∙ ap (λ (q : BufferPool). calls.reserve 8 q m len) i) k h f
+  reserve-through len g x k = through reserveResult r b e m [] _ x t c after [] (g ∙ ap (λ (q : BufferPool). calls.reserve (q .slots) q m len) i) k h f
 
-  pub commit-through : (n : ℕ) → outcome c after [] ≡ calls.commit 8 p m n → (x : PlaceResult) → x ≡ placeResult (c .answer) → left x h after [] ≡ commit r m n
+  pub commit-through : (n : ℕ) → outcome c after [] ≡ calls.commit (p .slots) p m n → (x : PlaceResult) → x ≡ placeResult (c .answer) → left x h after [] ≡ commit r m n
   unfolding commit
-  commit-through n g x k = through placeResult r b e m [] _ x t c after [] (g ∙ ap (λ (q : BufferPool). calls.commit 8 q m n) i) k h f
+  commit-through n g x k = through placeResult r b e m [] _ x t c after [] (g ∙ ap (λ (q : BufferPool). calls.commit (q .slots) q m n) i) k h f
 
-  pub truncate-through : (n : ℕ) → outcome c after [] ≡ calls.truncate 8 p m n → (x : PlaceResult) → x ≡ placeResult (c .answer) → left x h after [] ≡ truncate r m n
+  pub truncate-through : (n : ℕ) → outcome c after [] ≡ calls.truncate (p .slots) p m n → (x : PlaceResult) → x ≡ placeResult (c .answer) → left x h after [] ≡ truncate r m n
   unfolding truncate
-  truncate-through n g x k = through placeResult r b e m [] _ x t c after [] (g ∙ ap (λ (q : BufferPool). calls.truncate 8 q m n) i) k h f
+  truncate-through n g x k = through placeResult r b e m [] _ x t c after [] (g ∙ ap (λ (q : BufferPool). calls.truncate (q .slots) q m n) i) k h f
 
-  pub take-through : (caller : ℕ) (d ended : List ℕ) → outcome c after ended ≡ calls.take 8 p m caller d → (x : TakeResult)
+  pub take-through : (caller : ℕ) (d ended : List ℕ) → outcome c after ended ≡ calls.take (p .slots) p m caller d → (x : TakeResult)
       → x ≡ takeResult (c .answer) → left x h after ended ≡ take r m caller d
   unfolding take
-  take-through caller d ended g x k = through takeResult r b e m d _ x t c after ended (g ∙ ap (λ (q : BufferPool). calls.take 8 q m caller d) i) k h f
+  take-through caller d ended g x k = through takeResult r b e m d _ x t c after ended (g ∙ ap (λ (q : BufferPool). calls.take (q .slots) q m caller d) i) k h f
 
-  pub release-through : (a : Handle) (n : pool.Handle) → n ≡ named (inBytes a) → outcome c after [] ≡ calls.release 8 p m n → (x : ℕ) → x ≡ values (c .answer) .number → left x h after [] ≡ release r m a
+  pub release-through : (a : Handle) (n : pool.Handle) → n ≡ named (inBytes a) → outcome c after [] ≡ calls.release (p .slots) p m n → (x : ℕ) → x ≡ values (c .answer) .number → left x h after [] ≡ release r m a
   unfolding release
-  release-through a n j g x k = through refusalResult r b e m [] (calls.release 8 (poolOf r) m (named a)) x t c after [] (g ∙ rw (i, j) (released-in-bytes (poolOf r) m a)) k h f
+  release-through a n j g x k = through refusalResult r b e m [] (calls.release (r .slots) (poolOf r) m (named a)) x t c after [] (g ∙ rw (i, j) (released-in-bytes (r .slots) (poolOf r) m a)) k h f
 
 -- ---- Views
 
@@ -68,20 +68,20 @@ module _ (r : Record) (b : Bool) (e : b ≡ known r) (x : PlaceResult) where
   view-through t v w g f = f ∙ rw (← e, not-false b t, g) refl
 
   module _ (t : not b ≡ false) (p : BufferPool) (i : p ≡ poolOf r) (m : Memories) (v : View) (k : x ≡ viewResult v) where
-    pub frame-through : v ≡ calls.frameView 8 p m → x ≡ frame r m
+    pub frame-through : v ≡ calls.frameView (p .slots) p m → x ≡ frame r m
     unfolding frame
-    frame-through g = view-through t v (calls.frameView 8 (poolOf r) m) (g ∙ ap (λ (q : BufferPool). calls.frameView 8 q m) i) k
+    frame-through g = view-through t v (calls.frameView (r .slots) (poolOf r) m) (g ∙ ap (λ (q : BufferPool). calls.frameView (q .slots) q m) i) k
 
-    pub reservation-through : v ≡ calls.reservationView 8 p m → x ≡ reservation r m
+    pub reservation-through : v ≡ calls.reservationView (p .slots) p m → x ≡ reservation r m
     unfolding reservation
-    reservation-through g = view-through t v (calls.reservationView 8 (poolOf r) m) (g ∙ ap (λ (q : BufferPool). calls.reservationView 8 q m) i) k
+    reservation-through g = view-through t v (calls.reservationView (r .slots) (poolOf r) m) (g ∙ ap (λ (q : BufferPool). calls.reservationView (q .slots) q m) i) k
 
-    pub slice-through : (a : Handle) (n : pool.Handle) → n ≡ named (inBytes a) → v ≡ calls.sliceView 8 p m n → x ≡ slice r m a
+    pub slice-through : (a : Handle) (n : pool.Handle) → n ≡ named (inBytes a) → v ≡ calls.sliceView (p .slots) p m n → x ≡ slice r m a
     unfolding slice
-    slice-through a n j g = view-through t v (calls.sliceView 8 (poolOf r) m (named a)) (g ∙ rw (i, j) (viewed-in-bytes (poolOf r) m a)) k
+    slice-through a n j g = view-through t v (calls.sliceView (r .slots) (poolOf r) m (named a)) (g ∙ rw (i, j) (viewed-in-bytes (r .slots) (poolOf r) m a)) k
 
 -- ---- New
 
-pub new-as : (c : Called) (m after : Memories) → outcome c after [] ≡ calls.new 8 m → (n : ℕ) → n ≡ values (c .answer) .number → (before : PoolFront) → before ≡ noFront → (h : Record) → h ≡ recordOf before (c .pool) → left n h after [] ≡ new m
+pub new-as : (w : ℕ) (c : Called) (m after : Memories) → outcome c after [] ≡ calls.new w m → (n : ℕ) → n ≡ values (c .answer) .number → (before : PoolFront) → before ≡ noFront → (h : Record) → h ≡ recordOf before (c .pool) → left n h after [] ≡ new w m
 unfolding new
-new-as c m after g n f before v h i = rw (f, i, v) (ap newly g)
+new-as w c m after g n f before v h i = rw (f, i, v) (ap newly g)

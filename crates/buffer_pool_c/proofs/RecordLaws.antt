@@ -2,7 +2,7 @@
 -- Assumes nothing.
 use mathlib.Core.Path.{_≡_, refl, sym, ap, _∙_}
 use mathlib.Core.Bool.{Bool, true, false, not}
-use Prim.Native.Nat.{ℕ, zero, suc, _<_, _≤_}
+use Prim.Native.Nat.{ℕ, zero, suc, _<_, _≤_, _^_}
 use native.Mathlib.Omega.{arith}
 use borrow.Author.Tests.{leb-true, ltb-true, le-ltb, lt-ltb}
 use lib.Dec.{leb}
@@ -11,6 +11,7 @@ use Rattle.buffer_pool.specs.declared.buffer_pool.BufferPool.{BufferPool}
 use Rattle.buffer_pool.specs.declared.buffer_pool.PoolFront.{PoolFront}
 use Rattle.buffer_pool.specs.declared.buffer_pool.PoolMode.{PoolMode}
 use Rattle.buffer_pool.specs.declared.buffer_pool.PoolMode.the-variants.{Back, Front, Alloc}
+use Rattle.buffer_pool.specs.Record.{mostSlots}
 use Rattle.buffer_pool_c.specs.declared.record.Record.{Record}
 use Rattle.buffer_pool_c.specs.Record.{isMode, isLiveWord, known, modeOf, modeNumber, frontOf, frontHeld, poolIn, poolOf, recordIn, recordOf, recordAfter}
 
@@ -33,14 +34,14 @@ after-as r p f e h g = g ∙ ap (λ (x : PoolFront). recordOf x p) e
 
 -- ---- A record that is a pool's
 
-pub unknown-live : (r : Record) → 256 ≤ r .live → false ≡ known r
-unknown-live r h = rw (le-ltb (r .live) 256 h) refl
+pub unknown-live : (r : Record) → 2 ^ mostSlots ≤ r .live → false ≡ known r
+unknown-live r h = rw (le-ltb (r .live) (2 ^ mostSlots) h) refl
 
-pub known-mode : (r : Record) → r .live < 256 → (b : Bool) → b ≡ leb (r .mode) 2 → b ≡ known r
-known-mode r h b e = rw (e, lt-ltb (r .live) 256 h) refl
+pub known-mode : (r : Record) → r .live < 2 ^ mostSlots → (b : Bool) → b ≡ leb (r .mode) 2 → b ≡ known r
+known-mode r h b e = rw (e, lt-ltb (r .live) (2 ^ mostSlots) h) refl
 
-pub live-fits : (r : Record) (b : Bool) → b ≡ known r → not b ≡ false → r .live < 256
-live-fits r b e t = ltb-true (r .live) 256 (both-true (isLiveWord (r .live)) (isMode (r .mode)) (sym e ∙ not-false b t) .0)
+pub live-fits : (r : Record) (b : Bool) → b ≡ known r → not b ≡ false → r .live < 2 ^ mostSlots
+live-fits r b e t = ltb-true (r .live) (2 ^ mostSlots) (both-true (isLiveWord (r .live)) (isMode (r .mode)) (sym e ∙ not-false b t) .0)
 
 -- ---- Nothing is lost between the two records
 

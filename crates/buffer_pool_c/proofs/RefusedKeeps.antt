@@ -7,11 +7,9 @@ use Prim.Native.Nat.{ℕ, _<_}
 use Rattle.laws.specs.Tests.{pick}
 use Rattle.buffer_pool.specs.declared.buffer_pool.Answer.{Answer}
 use Rattle.buffer_pool.specs.declared.buffer_pool.Answer.the-variants.{Refused}
-use Rattle.buffer_pool.specs.Record.{slotCount}
 use Rattle.buffer_pool.specs.Moves.{Memories}
 use Rattle.buffer_pool.specs.Values.{refusal}
 use Rattle.buffer_pool.specs.Steps.{refused}
-use Rattle.buffer_pool.specs.Calls as calls
 use Rattle.buffer_pool.specs.Calls.{Outcome, outcome}
 use Rattle.buffer_pool.specs.Vocabulary.{Reserve, Commit, Truncate, Take, Release, call, numberOf}
 use Rattle.buffer_pool.proofs.RefusedKeeps as pool
@@ -47,22 +45,22 @@ module _ (r : Record) (m : Memories) where
 
   pub reserve-keeps : (len : ℕ) → 0 < reserve r m len .result .refusal → reserve r m len ≡ left (reserveResult (Refused (reserve r m len .result .refusal))) r m []
   unfolding reserve call numberOf refusal
-  reserve-keeps len = kept reserveResult (λ (x : ReserveResult). x .refusal) (λ a. refl) [] _ (pool.refused-keeps slotCount (poolOf r) m (Reserve len))
+  reserve-keeps len = kept reserveResult (λ (x : ReserveResult). x .refusal) (λ a. refl) [] _ (pool.refused-keeps (r .slots) (poolOf r) m (Reserve len))
 
   pub commit-keeps : (n : ℕ) → 0 < commit r m n .result .refusal → commit r m n ≡ left (placeResult (Refused (commit r m n .result .refusal))) r m []
   unfolding commit call numberOf refusal
-  commit-keeps n = kept placeResult (λ (x : PlaceResult). x .refusal) (λ a. refl) [] _ (pool.refused-keeps slotCount (poolOf r) m (Commit n))
+  commit-keeps n = kept placeResult (λ (x : PlaceResult). x .refusal) (λ a. refl) [] _ (pool.refused-keeps (r .slots) (poolOf r) m (Commit n))
 
   pub truncate-keeps : (n : ℕ) → 0 < truncate r m n .result .refusal → truncate r m n ≡ left (placeResult (Refused (truncate r m n .result .refusal))) r m []
   unfolding truncate call numberOf refusal
-  truncate-keeps n = kept placeResult (λ (x : PlaceResult). x .refusal) (λ a. refl) [] _ (pool.refused-keeps slotCount (poolOf r) m (Truncate n))
+  truncate-keeps n = kept placeResult (λ (x : PlaceResult). x .refusal) (λ a. refl) [] _ (pool.refused-keeps (r .slots) (poolOf r) m (Truncate n))
 
   pub take-keeps : (caller : ℕ) (d : List ℕ) → let x = take r m caller d in
       0 < x .result .refusal → x ≡ left (takeResult (Refused (x .result .refusal))) r m d
   unfolding take call numberOf refusal
   take-keeps caller d =
-      kept takeResult (λ (x : TakeResult). x .refusal) (λ a. refl) d _ (pool.refused-keeps slotCount (poolOf r) m (Take caller d))
+      kept takeResult (λ (x : TakeResult). x .refusal) (λ a. refl) d _ (pool.refused-keeps (r .slots) (poolOf r) m (Take caller d))
 
   pub release-keeps : (h : Handle) → 0 < release r m h .result → release r m h ≡ left (release r m h .result) r m []
   unfolding release call numberOf refusal
-  release-keeps h = kept refusalResult (λ (x : ℕ). x) (λ a. refl) [] _ (pool.refused-keeps slotCount (poolOf r) m (Release (named h)))
+  release-keeps h = kept refusalResult (λ (x : ℕ). x) (λ a. refl) [] _ (pool.refused-keeps (r .slots) (poolOf r) m (Release (named h)))

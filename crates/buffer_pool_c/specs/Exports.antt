@@ -7,7 +7,6 @@ use Rattle.laws.specs.Tests.{pick}
 use Rattle.buffer_pool.specs.declared.buffer_pool.Answer.{Answer}
 use Rattle.buffer_pool.specs.declared.buffer_pool.Answer.the-variants.{Refused}
 use Rattle.buffer_pool.specs.declared.buffer_pool.View.{View}
-use Rattle.buffer_pool.specs.Record.{slotCount}
 use Rattle.buffer_pool.specs.Moves.{Memories}
 use Rattle.buffer_pool.specs.Calls as calls
 use Rattle.buffer_pool.specs.Calls.{Outcome}
@@ -41,24 +40,25 @@ exported result r m destination o = pick (known r) (seen result r o) (left (resu
 abbrev pub newly : Outcome → Left ℕ
 newly o = left (results.refusalResult (o .call .answer)) (recordOf noFront (o .call .pool)) (o .memory) (o .destination)
 
-unfoldable pub new : Memories → Left ℕ
-new m = newly (calls.new slotCount m)
+-- w is the slot count
+unfoldable pub new : ℕ → Memories → Left ℕ
+new w m = newly (calls.new w m)
 
 unfoldable pub reserve : Record → Memories → ℕ → Left ReserveResult
-reserve r m len = exported results.reserveResult r m [] (calls.reserve slotCount (poolOf r) m len)
+reserve r m len = exported results.reserveResult r m [] (calls.reserve (r .slots) (poolOf r) m len)
 
 unfoldable pub commit : Record → Memories → ℕ → Left PlaceResult
-commit r m n = exported results.placeResult r m [] (calls.commit slotCount (poolOf r) m n)
+commit r m n = exported results.placeResult r m [] (calls.commit (r .slots) (poolOf r) m n)
 
 unfoldable pub truncate : Record → Memories → ℕ → Left PlaceResult
-truncate r m n = exported results.placeResult r m [] (calls.truncate slotCount (poolOf r) m n)
+truncate r m n = exported results.placeResult r m [] (calls.truncate (r .slots) (poolOf r) m n)
 
 unfoldable pub take : Record → Memories → ℕ → List ℕ → Left TakeResult
 take r m caller destination =
-    exported results.takeResult r m destination (calls.take slotCount (poolOf r) m caller destination)
+    exported results.takeResult r m destination (calls.take (r .slots) (poolOf r) m caller destination)
 
 unfoldable pub release : Record → Memories → Handle → Left ℕ
-release r m h = exported results.refusalResult r m [] (calls.release slotCount (poolOf r) m (results.named h))
+release r m h = exported results.refusalResult r m [] (calls.release (r .slots) (poolOf r) m (results.named h))
 
 -- ---- Views
 
@@ -67,10 +67,10 @@ abbrev pub exportedView : Record → View → PlaceResult
 exportedView r view = pick (known r) (results.viewResult view) results.unknownView
 
 unfoldable pub frame : Record → Memories → PlaceResult
-frame r m = exportedView r (calls.frameView slotCount (poolOf r) m)
+frame r m = exportedView r (calls.frameView (r .slots) (poolOf r) m)
 
 unfoldable pub reservation : Record → Memories → PlaceResult
-reservation r m = exportedView r (calls.reservationView slotCount (poolOf r) m)
+reservation r m = exportedView r (calls.reservationView (r .slots) (poolOf r) m)
 
 unfoldable pub slice : Record → Memories → Handle → PlaceResult
-slice r m h = exportedView r (calls.sliceView slotCount (poolOf r) m (results.named h))
+slice r m h = exportedView r (calls.sliceView (r .slots) (poolOf r) m (results.named h))

@@ -6,16 +6,17 @@ use Rattle.buffer_pool.specs.declared.buffer_pool.BufferPool.{BufferPool}
 use Rattle.buffer_pool.specs.declared.buffer_pool.PoolFront.{PoolFront}
 use Rattle.buffer_pool.specs.declared.buffer_pool.PoolMode.{PoolMode}
 use Rattle.buffer_pool.specs.declared.buffer_pool.PoolMode.the-variants.{Back, Front, Alloc}
-use Rattle.buffer_pool.specs.Record.{slotCount}
+use Rattle.buffer_pool.specs.Record.{mostSlots}
 use Rattle.buffer_pool_c.specs.declared.record.Record.{Record}
 
 -- is it the number of a mode?
 abbrev pub isMode : ℕ → Bool
 isMode number = leb number 2
 
--- is it a word of live slots, which has as many bits as there are slots?
+-- is it a word of 16 bits, as the pool's word of live slots? That it has no bit beyond the record's own slots is for the soundness
+-- test, which refuses with 1 as well
 abbrev pub isLiveWord : ℕ → Bool
-isLiveWord word = ltb word (2 ^ slotCount)
+isLiveWord word = ltb word (2 ^ mostSlots)
 
 -- can the record be a pool's, by its live word and its mode? C's fields hold any number of 32 bits
 abbrev pub known : Record → Bool
@@ -51,6 +52,7 @@ poolIn mode r =
     record {
       capacity = r .capacity;
       overflow = r .overflow;
+      slots = r .slots;
       live = r .live;
       starts = r .starts;
       lengths = r .lengths;
@@ -77,6 +79,7 @@ recordIn number front p =
     record {
       capacity = p .capacity;
       overflow = p .overflow;
+      slots = p .slots;
       starts = p .starts;
       lengths = p .lengths;
       serials = p .serials;

@@ -40,7 +40,7 @@ pub struct ReleasedOn {
     pub result: u8,
 }
 
-// Can the record be a pool's: has its live word as many bits as there are slots, and is its mode the number of one?
+// Can the record be a pool's: does its live word fit the pool's 16 bits, and is its mode the number of one?
 fn is_known(r: Record) -> bool
     ensures { λ b. ⌜ b ≡ known r ⌝ }
 {

@@ -20,12 +20,12 @@ pub struct NewResult {
     pub refusal: u64,
 }
 
-// A new pool: the pool memory is cleared. Refuses with 3.
+// A new pool of so many slots: the pool memory is cleared. Refuses with 16 and 3.
 #[no_mangle]
-pub extern "C" fn buffer_pool_new(pool: &mut [u8], overflow: &[u8]) -> NewResult
-    ensures { λ r. ⌜ spec.left (r .refusal) (r .record) (memories (now (pool .exit)) (now (overflow .entry))) [] ≡ spec.new (memories (now (pool .entry)) (now (overflow .entry))) ⌝ }
+pub extern "C" fn buffer_pool_new(slots: usize, pool: &mut [u8], overflow: &[u8]) -> NewResult
+    ensures { λ r. ⌜ spec.left (r .refusal) (r .record) (memories (now (pool .exit)) (now (overflow .entry))) [] ≡ spec.new slots (memories (now (pool .entry)) (now (overflow .entry))) ⌝ }
 {
-    let called = BufferPool::new(pool, overflow);
+    let called = BufferPool::new(slots, pool, overflow);
     let answer = called.answer;
     NewResult {
         record: record_of(no_front(), called.pool),

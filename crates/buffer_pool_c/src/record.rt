@@ -1,7 +1,7 @@
 // The record as C holds it, and the pool's own record in it.
 ghost use mathlib.Core.Path.{_≡_};
 ghost use Prim.Native.Nat.{_<_, _^_};
-ghost use Rattle.buffer_pool.specs.Record.{slotCount};
+ghost use Rattle.buffer_pool.specs.Record.{mostSlots};
 ghost use Rattle.buffer_pool_c.specs.Record as spec;
 use buffer_pool::buffer_pool::BufferPool;
 use buffer_pool::buffer_pool::PoolFront;
@@ -13,11 +13,12 @@ use buffer_pool::buffer_pool::PoolMode;
 pub struct Record {
     pub capacity: u64,
     pub overflow: u64,
-    pub starts: [u32; BufferPool::POOL_CAPACITY],
-    pub lengths: [u32; BufferPool::POOL_CAPACITY],
-    pub serials: [u32; BufferPool::POOL_CAPACITY],
+    pub slots: usize,
+    pub starts: [u32; BufferPool::MOST_SLOTS],
+    pub lengths: [u32; BufferPool::MOST_SLOTS],
+    pub serials: [u32; BufferPool::MOST_SLOTS],
     pub given: [u32; BufferPool::CALLERS],
-    pub callers: [u8; BufferPool::POOL_CAPACITY],
+    pub callers: [u8; BufferPool::MOST_SLOTS],
     pub live: u32,
     pub mode: u32,
     pub back_start: usize,
@@ -33,8 +34,9 @@ pub struct Record {
     pub reserved: u64,
 }
 
-// A live word is below this, as it has a bit for each slot.
-pub(crate) const LIVE_LIMIT: u32 = 1 << BufferPool::POOL_CAPACITY;
+// A live word is below this, as the pool's own word has 16 bits. That it has no bit beyond the record's own slots is for the pool's
+// soundness test, which refuses with 1 as well.
+pub(crate) const LIVE_LIMIT: u32 = 1 << BufferPool::MOST_SLOTS;
 
 // The mode with this number; for a number that is none, the overflow.
 fn mode_of(number: u32, front: PoolFront) -> PoolMode
@@ -93,9 +95,9 @@ fn front_of(mode: PoolMode, before: PoolFront) -> PoolFront
     }
 }
 
-// The pool's record, where the live word has as many bits as there are slots.
+// The pool's record, where the live word fits the pool's 16 bits.
 pub(crate) fn pool_of(r: Record) -> BufferPool
-    requires { ⌜ r .live < 2 ^ slotCount ⌝ }
+    requires { ⌜ r .live < 2 ^ mostSlots ⌝ }
     ensures { λ p. ⌜ p ≡ spec.poolOf r ⌝ }
 {
     let starts = r.starts;
@@ -106,7 +108,8 @@ pub(crate) fn pool_of(r: Record) -> BufferPool
     BufferPool {
         capacity: r.capacity,
         overflow: r.overflow,
-        live: r.live as u8,
+        slots: r.slots,
+        live: r.live as u16,
         starts: starts,
         lengths: lengths,
         serials: serials,
@@ -138,6 +141,7 @@ pub(crate) fn record_of(before: PoolFront, p: BufferPool) -> Record
     Record {
         capacity: p.capacity,
         overflow: p.overflow,
+        slots: p.slots,
         starts: starts,
         lengths: lengths,
         serials: serials,

@@ -62,7 +62,7 @@ bit-not (suc w) a (suc k) h l =
 
 -- ---- a power
 
-pub pow-div : (i j : ℕ) → i ≤ j → 2 ^ j / 2 ^ i ≡ 2 ^ (j - i)
+pow-div : (i j : ℕ) → i ≤ j → 2 ^ j / 2 ^ i ≡ 2 ^ (j - i)
 pow-div i j h = ap (λ (x : ℕ). 2 ^ x / 2 ^ i) (omega arith) ∙ ap (λ (x : ℕ). x / 2 ^ i) (pow-add 2 (j - i) i) ∙ shl-shr (2 ^ (j - i)) i
 
 pub bit-pow : (k : ℕ) → bit (2 ^ k) k ≡ 1

@@ -3,3 +3,4 @@ pub mod Copies
 pub mod Tests
 pub mod Bits
 pub mod Slots
+pub mod Words

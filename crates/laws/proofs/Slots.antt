@@ -4,18 +4,18 @@ use mathlib.Core.Path.{_≡_, refl, sym, ap, _∙_, subst}
 use mathlib.Core.Logic.{_⊎_, inl, inr}
 use mathlib.Core.Bool.{Bool, true, false, not}
 use Prim.Native.Nat.{ℕ, zero, suc, _+_, _-_, _*_, _/_, _%_, _^_, _≤_, _<_}
-use native.Mathlib.Nat.{lt-of-lt-of-le, lt-of-le-of-lt, le-of-suc-le-suc, le-of-lt, lt-of-not-le, le-refl, le-trans, le-suc, eq-or-lt-of-le, eq-zero-or-pos, one-mul, zero-mul, mod-lt}
+use native.Mathlib.Nat.{lt-of-lt-of-le, lt-of-le-of-lt, le-of-suc-le-suc, le-of-lt, lt-of-not-le, le-refl, le-trans, le-suc, eq-or-lt-of-le, eq-zero-or-pos, zero-mul, mod-lt}
 use native.Mathlib.Decide.{ℕ-discrete}
 use native.Mathlib.Omega.{arith}
 use borrow.Author.Tests.{eq-eqb, ne-eqb, eqb-true, eqb-false}
-use lib.Dec.{eqb, lit<}
+use lib.Dec.{eqb}
 use lib.Arith.{sub-sub-self}
-use lib.Pow.{pow-pos, pow-add, shl-exact, pow-lt, pow-mono, shr-lt}
+use lib.Pow.{pow-pos, pow-add, pow-lt, pow-mono, shr-lt}
 use lib.Bits.{bitAnd, bitOr, and-high, or-disjoint, or-lt, and-le-l}
 use lib.Count.{leadingZeros, leading-of-zero, trailingZeros, trailing-of-zero}
 use Rattle.laws.specs.Tests.{pick}
 use Rattle.laws.specs.Live.{bit, slotMask, liveAt, claimed, released, lastLive, firstLive}
-use Rattle.laws.proofs.Bits.{bit-two, bit-or, bit-and, bit-not, bit-pow, bit-pow-other, bit-past, bit-shr, bit-shl, bit-shl-low, bit-ext, Top, leading, Bottom, trailing, pow-div}
+use Rattle.laws.proofs.Bits.{bit-two, bit-or, bit-and, bit-not, bit-pow, bit-pow-other, bit-past, bit-shr, bit-shl, bit-shl-low, bit-ext, Top, leading, Bottom, trailing}
 
 -- a slot is live where its bit is set; two slots are alike where their bits are, and the other way round
 pub is-live : (w n p : ℕ) → bit n (w - p) ≡ 1 → liveAt w n p ≡ true
@@ -37,13 +37,6 @@ digit-of (suc zero) (suc (suc y)) hx hy e = absurd (omega arith)
 digit-of (suc (suc x)) y hx hy e = absurd (omega arith)
 
 -- ---- one slot's mask
-
--- the top bit shifted down, and the bottom bit shifted up
-pub mask-down : (w p : ℕ) → 1 ≤ p → p ≤ w → 2 ^ (w - 1) / 2 ^ (p - 1) ≡ slotMask w p
-mask-down w p l h = pow-div (p - 1) (w - 1) (omega arith) ∙ ap (λ (x : ℕ). 2 ^ x) (omega arith)
-
-pub mask-up : (w p : ℕ) → 1 ≤ p → p ≤ w → (1 * 2 ^ (w - p)) % 2 ^ w ≡ slotMask w p
-mask-up w p l h = shl-exact 1 (w - p) w (lit< tt) (omega arith) ∙ one-mul (2 ^ (w - p))
 
 pub mask-fits : (w p : ℕ) → 1 ≤ p → p ≤ w → slotMask w p < 2 ^ w
 mask-fits w p l h = pow-lt (omega arith)

@@ -1,5 +1,5 @@
 -- Bool tests read as facts, and back. Assumes nothing.
-use mathlib.Core.Path.{_≡_, refl, sym, subst}
+use mathlib.Core.Path.{_≡_, refl, sym, ap₂, subst}
 use mathlib.Core.Bool.{Bool, true, false, not, _&&_, _||_}
 use mathlib.Core.Logic.{_⊎_, inl, inr}
 use Prim.Native.Nat.{ℕ, zero, suc, _+_, _≤_, _<_}
@@ -85,3 +85,9 @@ eqb-and a b e = let t = both-true (eqb a b) _ e in (eqb-true a b (t .0), t .1)
 pub pick-cases : {A : Type 0} (P : A → Type 0) (t : Bool) {a b : A} → (t ≡ true → P a) → (t ≡ false → P b) → P (pick t a b)
 pick-cases P true f g = f refl
 pick-cases P false f g = g refl
+
+pub every-same : (f g : ℕ → Bool) (a n : ℕ) → ((p : ℕ) → a ≤ p → p < a + n → f p ≡ g p) → every f a n ≡ every g a n
+unfolding every
+every-same f g a zero same = refl
+every-same f g a (suc n) same =
+    ap₂ (λ (x y : Bool). x && y) (same a (omega arith) (omega arith)) (every-same f g (suc a) n (λ p l h. same p (omega arith) (omega arith)))

@@ -53,7 +53,7 @@ pub extern "C" fn pool_bench_rounds(
     ensures { λ r. ⌜ r ≡ givenTo (spec.rounds len rounds (spec.started (memories (now (pool .entry)) (now (overflow .entry))) (now (destination .entry))) .held) 0 ⌝ }
     ensures { λ _. ⌜ memories (now (pool .exit)) (now (overflow .exit)) ≡ spec.rounds len rounds (spec.started (memories (now (pool .entry)) (now (overflow .entry))) (now (destination .entry))) .memory ⌝ }
 {
-    let made = BufferPool::new(pool, overflow);
+    let made = BufferPool::new(BufferPool::POOL_CAPACITY, pool, overflow);
     let mut p = made.pool;
     let mut left = rounds;
     while 0 < left {

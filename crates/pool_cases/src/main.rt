@@ -279,6 +279,11 @@ fn answer_told(answer: Answer) -> Told {
     )
 }
 
+// The live slots: the word of 8 slots is a byte.
+fn put_live(out: &mut [u8], at: usize, live: u16) -> usize {
+    put_hex(out, at, (live % 256) as u8)
+}
+
 // Kind, refusal, mode and live slots of a line.
 fn put_state(out: &mut [u8], at: usize, p: BufferPool, kind: u64, refusal: u8) -> usize {
     let mode = p.mode;
@@ -288,7 +293,7 @@ fn put_state(out: &mut [u8], at: usize, p: BufferPool, kind: u64, refusal: u8) -
     place = put(out, place, b' ');
     place = put(out, place, mode_letter(mode));
     place = put(out, place, b' ');
-    put_hex(out, place, p.live)
+    put_live(out, place, p.live)
 }
 
 // A line from the kind on, without bytes.
@@ -557,7 +562,7 @@ fn turn(
     r.p
 }
 
-// Runs the events of a list, from its first at `at` on, on a new pool.
+// Runs the events of a list, from its first at `at` on, on a new pool of 8 slots.
 fn run_events(
     file: &[u8],
     at: usize,
@@ -568,7 +573,7 @@ fn run_events(
 )
     requires { ⌜ count ≤ 4294967295 ⌝ }
 {
-    let c = BufferPool::new(pool, overflow);
+    let c = BufferPool::new(BufferPool::POOL_CAPACITY, pool, overflow);
     let mut p = c.pool;
     let mut i = 0u64;
     while i < count {

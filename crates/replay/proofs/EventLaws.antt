@@ -163,26 +163,26 @@ module _ (r : BufferPool) (pool overflow text : List ℕ) where
 -- ---- The call
 
 module _ (r : BufferPool) (m : Memories) (d : List ℕ) (e : Event) (h : Handle) (c : Called) (n : Memories) where
-  pub call-reserve : e .kind ≡ 1 → outcome c n [] ≡ calls.reserve 8 r m (e .number) → outcome c n d ≡ callOf r m d e h
+  pub call-reserve : e .kind ≡ 1 → outcome c n [] ≡ calls.reserve (r .slots) r m (e .number) → outcome c n d ≡ callOf r m d e h
   unfolding callOf
   call-reserve k o = rw (eq-eqb (e .kind) 1 k, ← o) refl
 
   module _ (a : e .kind ≡ 1 → ⊥) where
-    pub call-commit : e .kind ≡ 2 → outcome c n [] ≡ calls.commit 8 r m (e .number) → outcome c n d ≡ callOf r m d e h
+    pub call-commit : e .kind ≡ 2 → outcome c n [] ≡ calls.commit (r .slots) r m (e .number) → outcome c n d ≡ callOf r m d e h
     unfolding callOf
     call-commit k o = rw (ne-eqb (e .kind) 1 a, eq-eqb (e .kind) 2 k, ← o) refl
 
     module _ (b : e .kind ≡ 2 → ⊥) where
-      pub call-take : e .kind ≡ 3 → (f : List ℕ) → outcome c n f ≡ calls.take 8 r m (e .caller) d → outcome c n f ≡ callOf r m d e h
+      pub call-take : e .kind ≡ 3 → (f : List ℕ) → outcome c n f ≡ calls.take (r .slots) r m (e .caller) d → outcome c n f ≡ callOf r m d e h
       unfolding callOf
       call-take k f o = rw (ne-eqb (e .kind) 1 a, ne-eqb (e .kind) 2 b, eq-eqb (e .kind) 3 k) o
 
       module _ (g : e .kind ≡ 3 → ⊥) where
-        pub call-truncate : e .kind ≡ 4 → outcome c n [] ≡ calls.truncate 8 r m (e .number) → outcome c n d ≡ callOf r m d e h
+        pub call-truncate : e .kind ≡ 4 → outcome c n [] ≡ calls.truncate (r .slots) r m (e .number) → outcome c n d ≡ callOf r m d e h
         unfolding callOf
         call-truncate k o = rw (ne-eqb (e .kind) 1 a, ne-eqb (e .kind) 2 b, ne-eqb (e .kind) 3 g, eq-eqb (e .kind) 4 k, ← o) refl
 
-        pub call-release : (e .kind ≡ 4 → ⊥) → outcome c n [] ≡ calls.release 8 r m h → outcome c n d ≡ callOf r m d e h
+        pub call-release : (e .kind ≡ 4 → ⊥) → outcome c n [] ≡ calls.release (r .slots) r m h → outcome c n d ≡ callOf r m d e h
         unfolding callOf
         call-release k o = rw (ne-eqb (e .kind) 1 a, ne-eqb (e .kind) 2 b, ne-eqb (e .kind) 3 g, ne-eqb (e .kind) 4 k, ← o) refl
 

@@ -1,9 +1,9 @@
 -- What a run keeps: the record stays sound, so that every frame start is a small number; the trace bytes used are some of
 -- those there are; and no count exceeds the number of events. Assumes nothing.
-use mathlib.Core.Path.{_≡_}
+use mathlib.Core.Path.{_≡_, refl, sym, subst}
 use mathlib.Core.Bool.{true, not, _&&_, _||_}
 use mathlib.Core.List.{List, []}
-use Prim.Native.Nat.{ℕ, _+_, _-_, _≤_}
+use Prim.Native.Nat.{ℕ, _+_, _-_, _≤_, _<_, _^_}
 use native.Mathlib.Omega.{arith}
 use borrow.Author.Tests.{ltb-false}
 use lib.Dec.{ltb, eqb}
@@ -14,10 +14,10 @@ use Rattle.buffer_pool.specs.declared.buffer_pool.BufferPool.{BufferPool}
 use Rattle.buffer_pool.specs.declared.buffer_pool.PoolMode.{PoolMode}
 use Rattle.buffer_pool.specs.declared.buffer_pool.PoolMode.the-variants.{Back, Front, Alloc}
 use Rattle.buffer_pool.specs.declared.buffer_pool.Called.{Called}
-use Rattle.buffer_pool.specs.Record.{byteLimit}
+use Rattle.buffer_pool.specs.Record.{rustSlots, byteLimit}
 use Rattle.buffer_pool.specs.Values.{Values}
 use Rattle.buffer_pool.specs.Moves.{Memories}
-use Rattle.buffer_pool.specs.Soundness.{sound}
+use Rattle.buffer_pool.specs.Soundness.{isCount, sound}
 use Rattle.buffer_pool.specs.Sound.{InMode}
 use Rattle.buffer_pool.specs.Steps.{refused, reserveStep, commitStep, truncateStep, takeStep, releaseStep}
 use Rattle.buffer_pool.specs.Calls as calls
@@ -35,13 +35,13 @@ use Rattle.replay.specs.Run.{counted, Within, inPool, starts, startsOf, 
 
 -- what holds of a call refused with 1 or 2, and of each call's step, holds of an event's call
 module _ (r : BufferPool) (m : Memories) (P : Called → Type 0) (one : P (refused r 1)) (two : P (refused r 2)) where
-  guarded-by : (d : List ℕ) (o : Outcome) → P (o .call) → P (guardedCall 8 r m d o .call)
+  guarded-by : (d : List ℕ) (o : Outcome) → P (o .call) → P (guardedCall (r .slots) r m d o .call)
   guarded-by d o h =
-      pick-cases (λ (x : Outcome). P (x .call)) (not (sound 8 r)) (λ t. one)
+      pick-cases (λ (x : Outcome). P (x .call)) (not (sound (r .slots) r)) (λ t. one)
       (λ t. pick-cases (λ (x : Outcome). P (x .call)) (misfit r m) (λ u. two) (λ u. h))
 
-  pub call-by-steps : (d : List ℕ) (x : Event) (h : Handle) → ((n : ℕ) → P (reserveStep 8 r n)) → ((n : ℕ) → P (commitStep r n))
-      → ((n : ℕ) → P (truncateStep r n)) → ((n : ℕ) → P (takeStep 8 r (x .caller) n)) → P (releaseStep 8 r h) → P (callOf r m d x h .call)
+  pub call-by-steps : (d : List ℕ) (x : Event) (h : Handle) → ((n : ℕ) → P (reserveStep (r .slots) r n)) → ((n : ℕ) → P (commitStep r n))
+      → ((n : ℕ) → P (truncateStep r n)) → ((n : ℕ) → P (takeStep (r .slots) r (x .caller) n)) → P (releaseStep (r .slots) r h) → P (callOf r m d x h .call)
   unfolding callOf calls.reserve calls.commit calls.truncate calls.take copiedOut calls.release
   call-by-steps d x h reserve commit truncate take release =
       pick-cases (λ (o : Outcome). P (o .call)) (eqb (x .kind) 1) (λ t. guarded-by [] _ (reserve (x .number)))
@@ -50,45 +50,50 @@ module _ (r : BufferPool) (m : Memories) (P : Called → Type 0) (one : P (refus
       (λ t. pick-cases (λ (o : Outcome). P (o .call)) (eqb (x .kind) 4) (λ t. guarded-by [] _ (truncate (x .number)))
       (λ t. guarded-by [] _ release))))
 
-call-sound : (r : BufferPool) (m : Memories) (d : List ℕ) (x : Event) (h : Handle) → sound 8 r ≡ true → sound 8 (callOf r m d x h .call .pool) ≡ true
-call-sound r m d x h e =
-    call-by-steps r m (λ (c : Called). sound 8 (c .pool) ≡ true) e e d x h (λ n. sound-kept 8 r (kept.Reserve n) e)
-    (λ n. sound-kept 8 r (kept.Commit n) e) (λ n. sound-kept 8 r (kept.Truncate n) e) (λ n. sound-kept 8 r (kept.Take (x .caller) n) e)
-    (sound-kept 8 r (kept.Release h) e)
+call-sound : (w : ℕ) (r : BufferPool) (m : Memories) (d : List ℕ) (x : Event) (h : Handle) → sound w r ≡ true
+    → sound w (callOf r m d x h .call .pool) ≡ true
+call-sound w r m d x h e =
+    call-by-steps r m (λ (c : Called). sound w (c .pool) ≡ true) e e d x h (λ n. own (kept.Reserve n)) (λ n. own (kept.Commit n))
+    (λ n. own (kept.Truncate n)) (λ n. own (kept.Take (x .caller) n)) (own (kept.Release h))
+  where
+    -- a step with the record's own slot count, which is w
+    own : (s : kept.Step) → sound w (kept.step (r .slots) r s .pool) ≡ true
+    own s = subst (λ (v : ℕ). sound w (kept.step v r s .pool) ≡ true) (sym (sound-use w r e .orderly .ready .count-is)) (sound-kept w r s e)
 
 -- the record that an outcome leaves is sound
 abbrev Sound : Outcome → Type 0
-Sound o = sound 8 (o .call .pool) ≡ true
+Sound o = sound rustSlots (o .call .pool) ≡ true
 
-pub new-sound : (m : Memories) → Sound (new 8 m)
-unfolding new
+pub new-sound : (m : Memories) → Sound (new rustSlots m)
+unfolding new isCount
 new-sound m =
     pick-cases Sound (ltb byteLimit (length (m .pool)) || ltb byteLimit (length (m .overflow)))
-    (λ t. sound-new 8 0 0 (omega arith) (omega arith) (omega arith))
+    (λ t. sound-new rustSlots 0 0 refl (omega arith) (omega arith))
     (λ t.
     let f = either-false (ltb byteLimit (length (m .pool))) (ltb byteLimit (length (m .overflow))) t in
-    sound-new 8 (length (m .pool)) (length (m .overflow)) (omega arith) (ltb-false byteLimit (length (m .pool)) (f .0)) (ltb-false byteLimit (length (m .overflow)) (f .1)))
+    sound-new rustSlots (length (m .pool)) (length (m .overflow)) refl (ltb-false byteLimit (length (m .pool)) (f .0))
+    (ltb-false byteLimit (length (m .overflow)) (f .1)))
 
 -- ---- Frame starts are small
 
-offset-in : (r : BufferPool) (mode : PoolMode) → InMode 8 mode r (r .reserved) → r .«raw_offset» ≤ r .capacity
-offset-in r Back I = omega (arith, I .fits)
-offset-in r (Front f) I = omega (arith, I .fits, I .bytes-within)
-offset-in r Alloc I = omega (arith, I .no-offset)
+offset-in : (w : ℕ) (r : BufferPool) (mode : PoolMode) → InMode w mode r (r .reserved) → r .«raw_offset» ≤ r .capacity
+offset-in w r Back I = omega (arith, I .fits)
+offset-in w r (Front f) I = omega (arith, I .fits, I .bytes-within)
+offset-in w r Alloc I = omega (arith, I .no-offset)
 
-offset-within : (r : BufferPool) → sound 8 r ≡ true → r .«raw_offset» ≤ r .capacity
-offset-within r e = offset-in r (r .mode) (sound-use 8 r e .orderly .in-mode)
+offset-within : (w : ℕ) (r : BufferPool) → sound w r ≡ true → r .«raw_offset» ≤ r .capacity
+offset-within w r e = offset-in w r (r .mode) (sound-use w r e .orderly .in-mode)
 
 -- both starts of a move are at most n
 abbrev pub Starting : ℕ → Starts → Type 0
 Starting n s = (s .before ≤ n) × (s .after ≤ n)
 
-pub starts-within : (n kind : ℕ) (r q : BufferPool) → sound 8 r ≡ true → sound 8 q ≡ true → r .capacity ≤ n → q .capacity ≤ n
+pub starts-within : (w n kind : ℕ) (r q : BufferPool) → sound w r ≡ true → sound w q ≡ true → r .capacity ≤ n → q .capacity ≤ n
     → Starting n (startsOf kind r q)
 unfolding startsOf
-starts-within n kind r q e f a b =
+starts-within w n kind r q e f a b =
     pick-cases (Starting n) (eqb kind 1 && (inPool (r .mode) && inPool (q .mode))) {a = starts (r .«raw_offset») (q .«raw_offset»)} {b = starts 0 0}
-    (λ t. (omega (arith, offset-within r e), omega (arith, offset-within q f))) (λ t. (omega arith, omega arith))
+    (λ t. (omega (arith, offset-within w r e), omega (arith, offset-within w q f))) (λ t. (omega arith, omega arith))
 
 -- ---- Trace bytes, and counts
 
@@ -103,15 +108,20 @@ counted-within n t v w = (omega (arith, w .0), omega (arith, w .1), omega (arith
 -- ---- An event
 
 module _ (bytes : List ℕ) (s : Running) (e : Event) where
-  pub step-sound : sound 8 (s .state .pool) ≡ true → sound 8 (step bytes s e .step .state .pool) ≡ true
+  pub step-sound : (w : ℕ) → sound w (s .state .pool) ≡ true → sound w (step bytes s e .step .state .pool) ≡ true
   unfolding step stepOf
-  step-sound h = call-sound (s .state .pool) _ (s .destination) e (handleOf (s .state .pool) (e .caller) (e .number)) h
+  step-sound w h = call-sound w (s .state .pool) _ (s .destination) e (handleOf (s .state .pool) (e .caller) (e .number)) h
 
-  pub step-starts : sound 8 (s .state .pool) ≡ true → Starting byteLimit (step bytes s e .step .shown .frame)
+  pub step-starts : (w : ℕ) → sound w (s .state .pool) ≡ true → Starting byteLimit (step bytes s e .step .shown .frame)
   unfolding step stepOf shownOf
-  step-starts h =
-      let k = step-sound h in
-      starts-within byteLimit (e .kind) (s .state .pool) _ h k (sound-use 8 _ h .capacity-limit) (sound-use 8 _ k .capacity-limit)
+  step-starts w h =
+      let k = step-sound w h in
+      starts-within w byteLimit (e .kind) (s .state .pool) _ h k (sound-use w _ h .capacity-limit) (sound-use w _ k .capacity-limit)
+
+  -- the live word has a bit for each slot
+  pub step-live : (w : ℕ) → sound w (s .state .pool) ≡ true → step bytes s e .step .shown .live < 2 ^ w
+  unfolding step stepOf shownOf
+  step-live w h = sound-use w _ (step-sound w h) .orderly .ready .slots .live-fits
 
   pub step-next : s .state .next ≤ length bytes → step bytes s e .step .state .next ≤ length bytes
   unfolding step stepOf

@@ -10,6 +10,7 @@ use lib.ListN.{length, take, drop, replicate, length-drop}
 use lib.Seq.{sets-eq, length-take-le}
 use Rattle.buffer_pool.specs.declared.buffer_pool.BufferPool.{BufferPool}
 use Rattle.buffer_pool.specs.declared.buffer_pool.Called.{Called}
+use Rattle.buffer_pool.specs.Record.{rustSlots}
 use Rattle.buffer_pool.specs.Moves.{Memories, memories}
 use Rattle.buffer_pool.specs.Soundness.{sound}
 use Rattle.buffer_pool.specs.Calls.{Outcome, outcome, new}
@@ -33,9 +34,9 @@ use Rattle.replay.proofs.Kept.{new-sound}
 abbrev fresh : BufferPool → State
 fresh r = record { pool = r; next = 0; tally = record { done = 0; refused = 0; takes = 0; spilled = 0 } }
 
-module _ (m n : Memories) (c : Called) (q : outcome c n [] ≡ new 8 m) where
-  pub fresh-sound : sound 8 (c .pool) ≡ true
-  fresh-sound = ap (λ (o : Outcome). sound 8 (o .call .pool)) q ∙ new-sound m
+module _ (m n : Memories) (c : Called) (q : outcome c n [] ≡ new rustSlots m) where
+  pub fresh-sound : sound rustSlots (c .pool) ≡ true
+  fresh-sound = ap (λ (o : Outcome). sound rustSlots (o .call .pool)) q ∙ new-sound m
 
   fresh-begun : (d : List ℕ) → running (fresh (c .pool)) n d ≡ begunOn m d
   unfolding begunOn

@@ -1,7 +1,7 @@
 -- The numbers that the lines show are small. A run keeps its record sound and the lengths of its memories, and in a sound record
 -- every slice, the frame and the reservation lie in their memories; so no start and no length exceeds the longest memory, and the
 -- held bytes, which stand one after the other, do not either. Assumes nothing.
-use mathlib.Core.Path.{_≡_, refl}
+use mathlib.Core.Path.{_≡_, refl, sym, subst}
 use mathlib.Core.Bool.{Bool, true, false, _||_}
 use mathlib.Core.Logic.{_⊎_, inl, inr}
 use mathlib.Core.List.{List}
@@ -21,11 +21,11 @@ use Rattle.buffer_pool.specs.declared.buffer_pool.PoolMode.{PoolMode}
 use Rattle.buffer_pool.specs.declared.buffer_pool.PoolMode.the-variants.{Back, Front, Alloc}
 use Rattle.buffer_pool.specs.declared.buffer_pool.Answer.the-variants.{Done, Taken, Copied, Refused}
 use Rattle.buffer_pool.specs.declared.buffer_pool.Called.{Called}
-use Rattle.buffer_pool.specs.Record.{slotCount, byteLimit, callerCount, startAt, after}
+use Rattle.buffer_pool.specs.Record.{rustSlots, byteLimit, callerCount, startAt, after}
 use Rattle.buffer_pool.specs.Values.{noHandle, Values, values}
 use Rattle.buffer_pool.specs.Moves.{Memories}
 use Rattle.buffer_pool.specs.Placing.{place, tooLong}
-use Rattle.buffer_pool.specs.Soundness.{sound}
+use Rattle.buffer_pool.specs.Soundness.{isCount, sound}
 use Rattle.buffer_pool.specs.Sound.{Held, Slots}
 use Rattle.buffer_pool.specs.Steps.{refused, frame, frameOf, reserveOn, reserveStep, resized, reframed, commitStep, truncateStep, mostSerials, givenTo, nextHandle, takeOn, takeStep, names, releaseStep}
 use Rattle.buffer_pool.specs.Calls.{Outcome, new}
@@ -42,40 +42,48 @@ use Rattle.replay.specs.declared.event.Shown.{Shown}
 use Rattle.replay.specs.Slots.{slotOf, handleAt, handleOf, heldAt, heldFrom, held}
 use Rattle.replay.specs.Run.{percent, extent, takeExtent, releaseExtent, extentOf, shownOf, filling, filled, callOf, Running, stepOf, step}
 use Rattle.replay.proofs.SlotLaws.{slot-held}
-use Rattle.replay.proofs.Kept.{call-by-steps, new-sound, Starting, starts-within}
+use Rattle.replay.proofs.Kept.{call-by-steps, new-sound, step-sound, Starting, starts-within}
 
 -- ---- The record
 
 -- a sound record whose memories are no longer than a trace may ask for
 pub record Small (r : BufferPool) : Type 0 where
-  pub is-sound : sound 8 r ≡ true
+  pub is-sound : sound (r .slots) r ≡ true
   pub capacity-within : r .capacity ≤ sizeLimit
   pub overflow-within : r .overflow ≤ sizeLimit
 
-small-kept : (r : BufferPool) (s : kept.Step) → Small r → Small (kept.step 8 r s .pool)
+small-kept : (r : BufferPool) (s : kept.Step) → Small r → Small (kept.step (r .slots) r s .pool)
 small-kept r s S =
-    let z = step-sizes 8 r s in
+    let z = step-sizes (r .slots) r s in
     record {
-      is-sound = sound-kept 8 r s (S .is-sound);
+      is-sound = subst (λ (w : ℕ). sound w (kept.step (r .slots) r s .pool) ≡ true) (sym (z .2)) (sound-kept (r .slots) r s (S .is-sound));
       capacity-within = omega (arith, z .0, S .capacity-within);
       overflow-within = omega (arith, z .1, S .overflow-within);
     }
 
-pub small-new : (m : Memories) → length (m .pool) ≤ sizeLimit → length (m .overflow) ≤ sizeLimit → Small (new 8 m .call .pool)
-unfolding new
-small-new m c o = record { is-sound = new-sound m; capacity-within = sizes .0; overflow-within = sizes .1 }
+pub small-new : (m : Memories) → length (m .pool) ≤ sizeLimit → length (m .overflow) ≤ sizeLimit → Small (new rustSlots m .call .pool)
+unfolding new isCount
+small-new m c o =
+    record {
+      is-sound = subst (λ (w : ℕ). sound w (new rustSlots m .call .pool) ≡ true) (sym (sizes .2)) (new-sound m);
+      capacity-within = sizes .0;
+      overflow-within = sizes .1;
+    }
   where
-    sizes : (new 8 m .call .pool .capacity ≤ sizeLimit) × (new 8 m .call .pool .overflow ≤ sizeLimit)
+    Sized : Outcome → Type 0
+    Sized x = (x .call .pool .capacity ≤ sizeLimit) × (x .call .pool .overflow ≤ sizeLimit) × (x .call .pool .slots ≡ rustSlots)
+
+    sizes : Sized (new rustSlots m)
     sizes =
-        pick-cases (λ (x : Outcome). (x .call .pool .capacity ≤ sizeLimit) × (x .call .pool .overflow ≤ sizeLimit))
-        (ltb byteLimit (length (m .pool)) || ltb byteLimit (length (m .overflow))) (λ t. (omega arith, omega arith)) (λ t. (c, o))
+        pick-cases Sized (ltb byteLimit (length (m .pool)) || ltb byteLimit (length (m .overflow))) (λ t. (omega arith, omega arith, refl))
+        (λ t. (c, o, refl))
 
 -- frame and reservation lie in their memory
 gathered-within : (r : BufferPool) → Small r → frame r .start + frame r .length + r .reserved ≤ sizeLimit
 gathered-within r S = go (r .mode) (I .gathered)
   where
-    I : Inside 8 r
-    I = sound-inside 8 r (S .is-sound)
+    I : Inside (r .slots) r
+    I = sound-inside (r .slots) r (S .is-sound)
 
     go : (mode : PoolMode) → frameOf mode r .start + frameOf mode r .length + r .reserved ≤ bytesFor mode r
         → frameOf mode r .start + frameOf mode r .length + r .reserved ≤ sizeLimit
@@ -105,14 +113,14 @@ module _ (r : BufferPool) (S : Small r) where
   refused-shows : (k : ℕ) → k < 10 → Shows (values (Refused k))
   refused-shows k l = placed-shows (values (Refused k)) l (omega arith) refl refl
 
-  reserve-shows : (n : ℕ) → Shows (values (reserveStep 8 r n .answer))
+  reserve-shows : (n : ℕ) → Shows (values (reserveStep (r .slots) r n .answer))
   unfolding reserveStep reserveOn
-  reserve-shows n = go (tooLong (place 8 r n) n) (small-kept r (kept.Reserve n) S)
+  reserve-shows n = go (tooLong (place (r .slots) r n) n) (small-kept r (kept.Reserve n) S)
     where
-      go : (t : Bool) → Small (reserveOn t r (place 8 r n) .pool) → Shows (values (reserveOn t r (place 8 r n) .answer))
+      go : (t : Bool) → Small (reserveOn t r (place (r .slots) r n) .pool) → Shows (values (reserveOn t r (place (r .slots) r n) .answer))
       go true Z = refused-shows 4 (omega arith)
       go false Z =
-          placed-shows (values (reserveOn false r (place 8 r n) .answer)) (omega arith) (gathered-within (place 8 r n .next) Z) refl refl
+          placed-shows (values (reserveOn false r (place (r .slots) r n) .answer)) (omega arith) (gathered-within (place (r .slots) r n .next) Z) refl refl
 
   reframed-shows : (q : BufferPool) → Small q → Shows (values (reframed q .answer))
   reframed-shows q Z = placed-shows (values (reframed q .answer)) (omega arith) (omega (arith, gathered-within q Z)) refl refl
@@ -141,14 +149,14 @@ module _ (r : BufferPool) (S : Small r) where
   pooled-shows caller h = (omega arith, near (omega arith), rw (ne-eqb (suc (r .used)) 0 (λ z. omega (arith, z))) (near h))
 
   -- the refusal of a caller above 3 has two digits, and an accepted file has no such caller
-  take-shows : (caller n : ℕ) → caller ≤ mostCaller → Shows (values (takeStep 8 r caller n .answer))
+  take-shows : (caller n : ℕ) → caller ≤ mostCaller → Shows (values (takeStep (r .slots) r caller n .answer))
   unfolding takeStep takeOn
   take-shows caller n l =
       rw (lt-leb callerCount caller (omega arith))
       (go (eqb (frame r .length) 0) (ltb n (frame r .length)) (leb mostSerials (givenTo r caller)) (r .mode) (omega (arith, gathered-within r S)))
     where
       go : (z long spent : Bool) (mode : PoolMode) → frameOf mode r .start + frameOf mode r .length ≤ sizeLimit
-          → Shows (values (takeOn false z long spent mode 8 caller r .answer))
+          → Shows (values (takeOn false z long spent mode (r .slots) caller r .answer))
       go true long spent mode g = copied-shows 0 (omega arith)
       go false long true Back g = refused-shows 8 (omega arith)
       go false long false Back g = pooled-shows caller g
@@ -157,10 +165,10 @@ module _ (r : BufferPool) (S : Small r) where
       go false true spent Alloc g = refused-shows 6 (omega arith)
       go false false spent Alloc g = copied-shows (r .cursor) (omega arith)
 
-  release-shows : (h : Handle) → Shows (values (releaseStep 8 r h .answer))
+  release-shows : (h : Handle) → Shows (values (releaseStep (r .slots) r h .answer))
   unfolding releaseStep
   release-shows h =
-      pick-cases (λ (c : Called). Shows (values (c .answer))) (names 8 r h) (λ e. placed-shows (values Done) (omega arith) (omega arith) refl refl)
+      pick-cases (λ (c : Called). Shows (values (c .answer))) (names (r .slots) r h) (λ e. placed-shows (values Done) (omega arith) (omega arith) refl refl)
       (λ e. refused-shows 7 (omega arith))
 
   -- the call of an event leaves such a record, and answers so
@@ -175,19 +183,19 @@ module _ (r : BufferPool) (S : Small r) where
       (small-kept r (kept.Release h) S, release-shows h)
 
   -- the handle that a caller and a serial give is of a live slot, which lies in the pool, or of none
-  slot-near : (caller serial p : ℕ) → (p ≡ 0) ⊎ Held 8 (r .live) p
+  slot-near : (caller serial p : ℕ) → (p ≡ 0) ⊎ Held (r .slots) (r .live) p
       → Near (extent (handleAt r caller serial p .start) (handleAt r caller serial p .length))
   unfolding handleAt
   slot-near caller serial p (inl z) = rw z (omega arith, omega arith)
   slot-near caller serial p (inr H) =
       let some : p ≡ 0 → ⊥ = λ z. omega (arith, z, H .one) in
       let end = end-some (r .starts) (r .lengths) p some (startAt (r .starts) p) (startAt (r .lengths) p) refl refl in
-      rw (ne-eqb p 0 some) (near (omega (arith, end, sound-inside 8 r (S .is-sound) .slices p H, S .capacity-within)))
+      rw (ne-eqb p 0 some) (near (omega (arith, end, sound-inside (r .slots) r (S .is-sound) .slices p H, S .capacity-within)))
 
   handle-near : (caller serial : ℕ) → Near (extent (handleOf r caller serial .start) (handleOf r caller serial .length))
   unfolding handleOf slotOf
   handle-near caller serial =
-      slot-near caller serial _ (slot-held (r .live) (r .callers) (r .serials) caller serial slotCount 1 (omega arith) (omega arith))
+      slot-near caller serial _ (slot-held (r .slots) (r .live) (r .callers) (r .serials) caller serial (r .slots) 1 (omega arith) (omega arith))
 
   -- what a line shows
   extent-near : (e : Event) (v : Values) → Shows v → Near (extentOf (e .kind) (handleOf r (e .caller) (e .number)) v)
@@ -231,23 +239,25 @@ module _ (bytes : List ℕ) (s : Running) (e : Event) (S : Small (s .state .pool
         refusal-digit = good .1 .0;
         start-within = x .0;
         length-within = x .1;
-        frame-within = starts-within sizeLimit (e .kind) r _ (S .is-sound) (good .0 .is-sound) (S .capacity-within) (good .0 .capacity-within);
+        frame-within =
+            starts-within (r .slots) sizeLimit (e .kind) r _ (S .is-sound) (step-sound bytes s e (r .slots) (S .is-sound)) (S .capacity-within)
+            (good .0 .capacity-within);
       }
 
 -- ---- The held bytes
 
 -- going up the slots, the slices from e on stand one after the other
-held-from : (r : BufferPool) → Slots 8 (r .live) (r .starts) (r .lengths) (r .capacity) → (n p e : ℕ) → 1 ≤ p → p + n ≡ 9 → e ≤ r .capacity
-    → ((q : ℕ) → p ≤ q → Held 8 (r .live) q → e ≤ startAt (r .starts) q) → e + heldFrom (r .live) (r .lengths) p n ≤ r .capacity
+held-from : (r : BufferPool) → Slots (r .slots) (r .live) (r .starts) (r .lengths) (r .capacity) → (n p e : ℕ) → 1 ≤ p → p + n ≡ suc (r .slots) → e ≤ r .capacity
+    → ((q : ℕ) → p ≤ q → Held (r .slots) (r .live) q → e ≤ startAt (r .starts) q) → e + heldFrom (r .slots) (r .live) (r .lengths) p n ≤ r .capacity
 unfolding heldFrom heldAt
 held-from r S zero p e o m c f = omega arith
-held-from r S (suc n) p e o m c f = go (liveAt 8 (r .live) p) refl (λ b. held-from r S n (suc p) b (omega arith) (omega arith))
+held-from r S (suc n) p e o m c f = go (liveAt (r .slots) (r .live) p) refl (λ b. held-from r S n (suc p) b (omega arith) (omega arith))
   where
-    go : (t : Bool) → liveAt 8 (r .live) p ≡ t
-        → ((b : ℕ) → b ≤ r .capacity → ((q : ℕ) → suc p ≤ q → Held 8 (r .live) q → b ≤ startAt (r .starts) q) → b + heldFrom (r .live) (r .lengths) (suc p) n ≤ r .capacity)
-        → e + (pick t (startAt (r .lengths) p) 0 + heldFrom (r .live) (r .lengths) (suc p) n) ≤ r .capacity
+    go : (t : Bool) → liveAt (r .slots) (r .live) p ≡ t
+        → ((b : ℕ) → b ≤ r .capacity → ((q : ℕ) → suc p ≤ q → Held (r .slots) (r .live) q → b ≤ startAt (r .starts) q) → b + heldFrom (r .slots) (r .live) (r .lengths) (suc p) n ≤ r .capacity)
+        → e + (pick t (startAt (r .lengths) p) 0 + heldFrom (r .slots) (r .live) (r .lengths) (suc p) n) ≤ r .capacity
     go true t next =
-        let H : Held 8 (r .live) p = record { one = o; most = omega arith; here = t } in
+        let H : Held (r .slots) (r .live) p = record { one = o; most = omega arith; here = t } in
         let end = end-some (r .starts) (r .lengths) p (λ z. omega (arith, z, o)) (startAt (r .starts) p) (startAt (r .lengths) p) refl refl in
         omega (arith, end, f p (le-refl p) H, next (after (r .starts) (r .lengths) p) (S .inside p H) (λ q l K. S .order p q l H K))
     go false t next = omega (arith, next e c (λ q l K. f q (omega arith) K))
@@ -255,7 +265,7 @@ held-from r S (suc n) p e o m c f = go (liveAt 8 (r .live) p) refl (λ b. held-f
 pub held-within : (r : BufferPool) → Small r → held r ≤ sizeLimit
 unfolding held
 held-within r S =
-    omega (arith, S .capacity-within, held-from r (sound-use 8 r (S .is-sound) .orderly .ready .slots) 8 1 0 (omega arith) (omega arith) (omega arith) (λ q l K. omega arith))
+    omega (arith, S .capacity-within, held-from r (sound-use (r .slots) r (S .is-sound) .orderly .ready .slots) (r .slots) 1 0 (omega arith) (omega arith) (omega arith) (λ q l K. omega arith))
 
 -- ---- The percent
 

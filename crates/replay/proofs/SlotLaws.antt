@@ -1,9 +1,10 @@
 -- The slots that the loops of slots.rt have passed, and what they know where they return. Assumes nothing.
-use mathlib.Core.Path.{_≡_, refl, sym}
+use mathlib.Core.Path.{_≡_, refl, sym, ap, _∙_}
 use mathlib.Core.Bool.{Bool, true, false, not}
 use mathlib.Core.List.{List}
 use mathlib.Core.Logic.{_⊎_, inl, inr}
 use Prim.Native.Nat.{ℕ, zero, suc, _+_, _-_, _≤_, _<_}
+use native.Mathlib.Nat.{zero-add}
 use native.Mathlib.Numerals.{add-one}
 use native.Mathlib.Omega.{arith}
 use borrow.Author.Tests.{eq-eqb, ne-eqb}
@@ -19,16 +20,16 @@ use Rattle.replay.specs.Slots.{bears, slotFrom, slotOf, handleAt, handle
 
 -- ---- The slot of a caller and a serial
 
-module _ (live : ℕ) (callers serials : List ℕ) (caller serial : ℕ) where
+module _ (w live : ℕ) (callers serials : List ℕ) (caller serial : ℕ) where
   -- is slot p named by them?
   abbrev named : ℕ → Bool
-  named = bears live callers serials caller serial
+  named = bears w live callers serials caller serial
 
   -- the first such slot of the n from slot p on
   abbrev first : ℕ → ℕ → ℕ
-  first = slotFrom live callers serials caller serial
+  first = slotFrom w live callers serials caller serial
 
-  module _ (p : ℕ) (l : Bool) (e : l ≡ liveAt 8 live p) where
+  module _ (p : ℕ) (l : Bool) (e : l ≡ liveAt w live p) where
     pub bears-dead : not l ≡ true → false ≡ named p
     unfolding bears
     bears-dead h = rw (← e, not-true l h)
@@ -42,30 +43,34 @@ module _ (live : ℕ) (callers serials : List ℕ) (caller serial : ℕ) where
       unfolding bears
       bears-own c = rw (← e, not-false l h, eq-eqb (startAt callers p) caller c)
 
-  module _ (p : ℕ) (h : 1 ≤ p) (k : p ≤ 8) (b : Bool) (e : b ≡ named p) (i : first 1 8 ≡ first p (9 - p)) where
-    step-slot : first p (9 - p) ≡ pick b p (first (suc p) (8 - p))
+  module _ (p : ℕ) (h : 1 ≤ p) (k : p ≤ w) (b : Bool) (e : b ≡ named p) (i : first 1 w ≡ first p (suc w - p)) where
+    step-slot : first p (suc w - p) ≡ pick b p (first (suc p) (w - p))
     unfolding slotFrom
-    step-slot = let z : 9 - p ≡ suc (8 - p) = omega arith in rw (z, ← e) refl
+    step-slot = let z : suc w - p ≡ suc (w - p) = omega arith in rw (z, ← e) refl
 
-    pub slot-here : b ≡ true → (r : BufferPool) → r .live ≡ live → r .callers ≡ callers → r .serials ≡ serials → p ≡ slotOf r caller serial
+    pub slot-here : b ≡ true → (r : BufferPool) → r .slots ≡ w → r .live ≡ live → r .callers ≡ callers → r .serials ≡ serials
+        → p ≡ slotOf r caller serial
     unfolding slotOf
-    slot-here t r u v w = rw (u, v, w, i, step-slot, t) refl
+    slot-here t r c l u v = rw (c, l, u, v, i, step-slot, t) refl
 
-    pub slot-more : b ≡ false → first 1 8 ≡ first (p + 1) (9 - (p + 1))
-    slot-more f = let z : 9 - (p + 1) ≡ 8 - p = omega arith in rw (i, step-slot, f, z, add-one p) refl
+    pub slot-more : b ≡ false → first 1 w ≡ first (p + 1) (suc w - (p + 1))
+    slot-more f = let z : suc w - (p + 1) ≡ w - p = omega arith in rw (i, step-slot, f, z, add-one p) refl
 
-  pub slot-none : (p : ℕ) → 8 < p → p ≤ 9 → first 1 8 ≡ first p (9 - p)
-      → (r : BufferPool) → r .live ≡ live → r .callers ≡ callers → r .serials ≡ serials → 0 ≡ slotOf r caller serial
+  pub slot-first : first 1 w ≡ first 1 (suc w - 1)
+  slot-first = ap (first 1) {y = suc w - 1} (omega arith)
+
+  pub slot-none : (p : ℕ) → w < p → first 1 w ≡ first p (suc w - p)
+      → (r : BufferPool) → r .slots ≡ w → r .live ≡ live → r .callers ≡ callers → r .serials ≡ serials → 0 ≡ slotOf r caller serial
   unfolding slotOf slotFrom
-  slot-none p h k i r u v w = let z : 9 - p ≡ 0 = omega arith in sym (rw (u, v, w, i, z) refl)
+  slot-none p h i r c l u v = let z : suc w - p ≡ 0 = omega arith in sym (rw (c, l, u, v, i, z) refl)
 
   -- that slot is live, or none
-  pub slot-held : (n p : ℕ) → 1 ≤ p → p + n ≤ 9 → (first p n ≡ 0) ⊎ Held 8 live (first p n)
+  pub slot-held : (n p : ℕ) → 1 ≤ p → p + n ≤ suc w → (first p n ≡ 0) ⊎ Held w live (first p n)
   unfolding slotFrom bears
   slot-held zero p h k = inl refl
   slot-held (suc n) p h k =
-      pick-cases (λ (q : ℕ). (q ≡ 0) ⊎ Held 8 live q) (named p)
-      (λ t. inr (record { one = h; most = omega arith; here = both-true (liveAt 8 live p) _ t .0 }))
+      pick-cases (λ (q : ℕ). (q ≡ 0) ⊎ Held w live q) (named p)
+      (λ t. inr (record { one = h; most = omega arith; here = both-true (liveAt w live p) _ t .0 }))
       (λ t. slot-held n (suc p) (omega arith) (omega arith))
 
 module _ (r : BufferPool) (caller serial p : ℕ) (e : p ≡ slotOf r caller serial) where
@@ -81,28 +86,31 @@ module _ (r : BufferPool) (caller serial p : ℕ) (e : p ≡ slotOf r caller ser
 
 -- ---- Held bytes
 
-module _ (live : ℕ) (lengths : List ℕ) (p : ℕ) (l : Bool) (e : l ≡ liveAt 8 live p) where
-  pub held-dead : not l ≡ true → 0 ≡ heldAt live lengths p
-  unfolding heldAt
-  held-dead h = rw (← e, not-true l h)
+module _ (w live : ℕ) (lengths : List ℕ) where
+  module _ (p : ℕ) (l : Bool) (e : l ≡ liveAt w live p) where
+    pub held-dead : not l ≡ true → 0 ≡ heldAt w live lengths p
+    unfolding heldAt
+    held-dead h = rw (← e, not-true l h)
 
-  pub held-live : not l ≡ false → (n : ℕ) → n ≡ getD lengths (p - 1) 0 → n ≡ heldAt live lengths p
-  unfolding heldAt
-  held-live h n q = rw (← e, not-false l h) q
+    pub held-live : not l ≡ false → (n : ℕ) → n ≡ getD lengths (p - 1) 0 → n ≡ heldAt w live lengths p
+    unfolding heldAt
+    held-live h n q = rw (← e, not-false l h) q
 
-pub held-more : (live : ℕ) (lengths : List ℕ) (total p n : ℕ) → 1 ≤ p → p ≤ 8 → n ≡ heldAt live lengths p
-    → total + heldFrom live lengths p (9 - p) ≡ heldFrom live lengths 1 8
-    → total + n + heldFrom live lengths (p + 1) (9 - (p + 1)) ≡ heldFrom live lengths 1 8
-unfolding heldFrom
-held-more live lengths total p n h k e i =
-    let z : 9 - p ≡ suc (8 - p) = omega arith in
-    let y : 9 - (p + 1) ≡ 8 - p = omega arith in
-    rw (y, add-one p, e) (omega (arith, rw z at i))
+  pub held-first : 0 + heldFrom w live lengths 1 (suc w - 1) ≡ heldFrom w live lengths 1 w
+  held-first = zero-add (heldFrom w live lengths 1 (suc w - 1)) ∙ ap (heldFrom w live lengths 1) {y = w} (omega arith)
 
-pub held-all : (live : ℕ) (lengths : List ℕ) (total p : ℕ) → 8 < p → p ≤ 9
-    → total + heldFrom live lengths p (9 - p) ≡ heldFrom live lengths 1 8
-    → (r : BufferPool) → r .live ≡ live → r .lengths ≡ lengths → total ≡ held r
-unfolding heldFrom held
-held-all live lengths total p h k i r u v =
-    let z : 9 - p ≡ 0 = omega arith in
-    rw (u, v) (omega (arith, rw z at i))
+  pub held-more : (total p n : ℕ) → 1 ≤ p → p ≤ w → n ≡ heldAt w live lengths p
+      → total + heldFrom w live lengths p (suc w - p) ≡ heldFrom w live lengths 1 w
+      → total + n + heldFrom w live lengths (p + 1) (suc w - (p + 1)) ≡ heldFrom w live lengths 1 w
+  unfolding heldFrom
+  held-more total p n h k e i =
+      let z : suc w - p ≡ suc (w - p) = omega arith in
+      let y : suc w - (p + 1) ≡ w - p = omega arith in
+      rw (y, add-one p, e) (omega (arith, rw z at i))
+
+  pub held-all : (total p : ℕ) → w < p → total + heldFrom w live lengths p (suc w - p) ≡ heldFrom w live lengths 1 w
+      → (r : BufferPool) → r .slots ≡ w → r .live ≡ live → r .lengths ≡ lengths → total ≡ held r
+  unfolding heldFrom held
+  held-all total p h i r c l v =
+      let z : suc w - p ≡ 0 = omega arith in
+      rw (c, l, v) (omega (arith, rw z at i))

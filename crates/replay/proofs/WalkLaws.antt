@@ -7,8 +7,11 @@ use native.Mathlib.Numerals.{add-one}
 use native.Mathlib.Omega.{arith}
 use lib.ListN.{length, getD, drop, drop-of-length-le}
 use lib.Seq.{drop-cons}
+use Rattle.buffer_pool.specs.declared.buffer_pool.BufferPool.{BufferPool}
+use Rattle.buffer_pool.specs.Record.{rustSlots, mostSlots}
 use Rattle.buffer_pool.specs.Moves.{Memories}
 use Rattle.buffer_pool.specs.Soundness.{sound}
+use Rattle.buffer_pool.proofs.Soundness.{sound-use}
 use Rattle.trace.specs.declared.Event.{Event}
 use Rattle.trace.specs.Content.{noEvent}
 use Rattle.replay.specs.declared.event.State.{State}
@@ -17,16 +20,23 @@ use Rattle.replay.specs.Text.{Output, wrote}
 use Rattle.replay.specs.Run.{Within, Running, running, Stepped, stepped, left, step}
 use Rattle.replay.specs.Listing.{line, lastLine, lines}
 use Rattle.replay.proofs.TextLaws.{wrote-more}
-use Rattle.replay.proofs.Kept.{step-sound, step-starts, step-next, step-within}
+use Rattle.replay.proofs.Kept.{step-sound, step-starts, step-live, step-next, step-within}
+
+-- a trace's pool has a place in its arrays for every slot
+pub few-slots : (r : BufferPool) → sound rustSlots r ≡ true → r .slots ≤ mostSlots
+few-slots r h = rw (sound-use rustSlots r h .orderly .ready .count-is) (omega arith)
 
 -- ---- One event
 
 module _ (bytes : List ℕ) (s : State) (m o : Memories) (d f : List ℕ) (e : Event) (t : Step) (q : stepped t o f ≡ step bytes (running s m d) e) where
-  pub small-before : sound 8 (s .pool) ≡ true → t .shown .frame .before < 4294967296
-  small-before h = subst (λ (x : Stepped). x .step .shown .frame .before < 4294967296) (sym q) (omega (arith, step-starts bytes (running s m d) e h .0))
+  pub small-before : sound rustSlots (s .pool) ≡ true → t .shown .frame .before < 4294967296
+  small-before h = subst (λ (x : Stepped). x .step .shown .frame .before < 4294967296) (sym q) (omega (arith, step-starts bytes (running s m d) e rustSlots h .0))
 
-  pub small-after : sound 8 (s .pool) ≡ true → t .shown .frame .after < 4294967296
-  small-after h = subst (λ (x : Stepped). x .step .shown .frame .after < 4294967296) (sym q) (omega (arith, step-starts bytes (running s m d) e h .1))
+  pub small-after : sound rustSlots (s .pool) ≡ true → t .shown .frame .after < 4294967296
+  small-after h = subst (λ (x : Stepped). x .step .shown .frame .after < 4294967296) (sym q) (omega (arith, step-starts bytes (running s m d) e rustSlots h .1))
+
+  pub small-live : sound rustSlots (s .pool) ≡ true → t .shown .live < 256
+  small-live h = subst (λ (x : Stepped). x .step .shown .live < 256) (sym q) (step-live bytes (running s m d) e rustSlots h)
 
   pub event-left : running (t .state) o f ≡ left (step bytes (running s m d) e)
   event-left = ap left q
@@ -37,8 +47,8 @@ module _ (bytes : List ℕ) (s : State) (m o : Memories) (d f : List ℕ) (e : E
 -- ---- The loop
 
 module _ (bytes : List ℕ) (s t : State) (m o : Memories) (d f : List ℕ) (e : Event) (q : running t o f ≡ left (step bytes (running s m d) e)) where
-  pub next-sound : sound 8 (s .pool) ≡ true → sound 8 (t .pool) ≡ true
-  next-sound h = ap (λ (x : Running). sound 8 (x .state .pool)) q ∙ step-sound bytes (running s m d) e h
+  pub next-sound : sound rustSlots (s .pool) ≡ true → sound rustSlots (t .pool) ≡ true
+  next-sound h = ap (λ (x : Running). sound rustSlots (x .state .pool)) q ∙ step-sound bytes (running s m d) e rustSlots h
 
   pub next-next : s .next ≤ length bytes → t .next ≤ length bytes
   next-next h = subst (λ (x : Running). x .state .next ≤ length bytes) (sym q) (step-next bytes (running s m d) e h)

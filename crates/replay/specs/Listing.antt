@@ -6,7 +6,7 @@ use lib.ListN.{length, drop, replicate}
 use lib.IntN.{ℤ, pos, _-ℤ_}
 use Rattle.laws.specs.Tests.{pick}
 use Rattle.buffer_pool.specs.declared.buffer_pool.BufferPool.{BufferPool}
-use Rattle.buffer_pool.specs.Record.{slotCount}
+use Rattle.buffer_pool.specs.Record.{rustSlots}
 use Rattle.buffer_pool.specs.Moves.{Memories, memories}
 use Rattle.buffer_pool.specs.Calls.{Outcome, new}
 use Rattle.trace.specs.declared.Event.{Event}
@@ -59,10 +59,10 @@ lines bytes s i (e ∷ rest) = line (suc i) (step bytes s e .step .shown) ++ lin
 
 -- ---- The listing
 
--- the run before the first event: a new pool on these memories, no trace byte used, nothing counted
+-- the run before the first event: a new pool on these memories, no trace byte used, nothing counted. W-208: "Traces stay at 8."
 unfoldable pub begunOn : Memories → List ℕ → Running
 begunOn m destination =
-    let o : Outcome = new slotCount m in
+    let o : Outcome = new rustSlots m in
     running
     (record { pool = o .call .pool; next = 0; tally = record { done = 0; refused = 0; takes = 0; spilled = 0 } })
     (o .memory) destination

@@ -15,7 +15,6 @@ use Rattle.buffer_pool.specs.declared.buffer_pool.PoolMode.the-variants.{Back, 
 use Rattle.buffer_pool.specs.declared.buffer_pool.Memory.{Memory}
 use Rattle.buffer_pool.specs.declared.buffer_pool.Memory.the-variants.{Pool, Overflow}
 use Rattle.buffer_pool.specs.declared.buffer_pool.Called.{Called}
-use Rattle.buffer_pool.specs.Record.{slotCount}
 use Rattle.buffer_pool.specs.Values.{Values, values}
 use Rattle.buffer_pool.specs.Moves.{Memories, memories}
 use Rattle.buffer_pool.specs.Steps.{reservation}
@@ -145,11 +144,11 @@ beside destination o = outcome (o .call) (o .memory) destination
 -- the call that an event makes; a take is by the event's caller, and a release takes the handle
 unfoldable pub callOf : BufferPool → Memories → List ℕ → Event → Handle → Outcome
 callOf r m destination e h =
-    pick (eqb (e .kind) reserveKind) (beside destination (calls.reserve slotCount r m (e .number)))
-    (pick (eqb (e .kind) commitKind) (beside destination (calls.commit slotCount r m (e .number)))
-    (pick (eqb (e .kind) takeKind) (calls.take slotCount r m (e .caller) destination)
-    (pick (eqb (e .kind) truncateKind) (beside destination (calls.truncate slotCount r m (e .number)))
-    (beside destination (calls.release slotCount r m h)))))
+    pick (eqb (e .kind) reserveKind) (beside destination (calls.reserve (r .slots) r m (e .number)))
+    (pick (eqb (e .kind) commitKind) (beside destination (calls.commit (r .slots) r m (e .number)))
+    (pick (eqb (e .kind) takeKind) (calls.take (r .slots) r m (e .caller) destination)
+    (pick (eqb (e .kind) truncateKind) (beside destination (calls.truncate (r .slots) r m (e .number)))
+    (beside destination (calls.release (r .slots) r m h)))))
 
 -- the run between two events: its state, the memories, and the destination of its takes
 pub record Running : Type 0 where

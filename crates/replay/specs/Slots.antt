@@ -1,4 +1,5 @@
--- What the run reads off the slots of the pool's record: the slice that a caller and a serial name, and the bytes held.
+-- What the run reads off the slots of the pool's record: the slice that a caller and a serial name, and the bytes held. w is the slot
+-- count.
 use mathlib.Core.Bool.{Bool, _&&_}
 use mathlib.Core.List.{List}
 use Prim.Native.Nat.{ℕ, zero, suc, _+_}
@@ -7,22 +8,22 @@ use Rattle.laws.specs.Tests.{pick}
 use Rattle.laws.specs.Live.{liveAt}
 use Rattle.buffer_pool.specs.declared.slice.Handle.{Handle}
 use Rattle.buffer_pool.specs.declared.buffer_pool.BufferPool.{BufferPool}
-use Rattle.buffer_pool.specs.Record.{slotCount, startAt}
+use Rattle.buffer_pool.specs.Record.{startAt}
 
 -- ---- The slice of a caller and a serial
 
 -- is slot p live, and has it this caller and this serial?
-unfoldable pub bears : ℕ → List ℕ → List ℕ → ℕ → ℕ → ℕ → Bool
-bears live callers serials caller serial p = liveAt slotCount live p && (eqb (startAt callers p) caller && eqb (startAt serials p) serial)
+unfoldable pub bears : ℕ → ℕ → List ℕ → List ℕ → ℕ → ℕ → ℕ → Bool
+bears w live callers serials caller serial p = liveAt w live p && (eqb (startAt callers p) caller && eqb (startAt serials p) serial)
 
 -- the first such slot of the n from slot p on, and 0 where none of them is one
-unfoldable pub slotFrom : ℕ → List ℕ → List ℕ → ℕ → ℕ → ℕ → ℕ → ℕ
-slotFrom live callers serials caller serial p zero = 0
-slotFrom live callers serials caller serial p (suc n) =
-    pick (bears live callers serials caller serial p) p (slotFrom live callers serials caller serial (suc p) n)
+unfoldable pub slotFrom : ℕ → ℕ → List ℕ → List ℕ → ℕ → ℕ → ℕ → ℕ → ℕ
+slotFrom w live callers serials caller serial p zero = 0
+slotFrom w live callers serials caller serial p (suc n) =
+    pick (bears w live callers serials caller serial p) p (slotFrom w live callers serials caller serial (suc p) n)
 
 unfoldable pub slotOf : BufferPool → ℕ → ℕ → ℕ
-slotOf r caller serial = slotFrom (r .live) (r .callers) (r .serials) caller serial 1 slotCount
+slotOf r caller serial = slotFrom (r .slots) (r .live) (r .callers) (r .serials) caller serial 1 (r .slots)
 
 -- the handle of slot p, with this caller and this serial
 unfoldable pub handleAt : BufferPool → ℕ → ℕ → ℕ → Handle
@@ -38,14 +39,14 @@ handleOf r caller serial = handleAt r caller serial (slotOf r caller serial)
 -- ---- Held bytes
 
 -- the length of slot p's slice, and 0 where it is free
-unfoldable pub heldAt : ℕ → List ℕ → ℕ → ℕ
-heldAt live lengths p = pick (liveAt slotCount live p) (startAt lengths p) 0
+unfoldable pub heldAt : ℕ → ℕ → List ℕ → ℕ → ℕ
+heldAt w live lengths p = pick (liveAt w live p) (startAt lengths p) 0
 
 -- the sum over the n slots from slot p on
-unfoldable pub heldFrom : ℕ → List ℕ → ℕ → ℕ → ℕ
-heldFrom live lengths p zero = 0
-heldFrom live lengths p (suc n) = heldAt live lengths p + heldFrom live lengths (suc p) n
+unfoldable pub heldFrom : ℕ → ℕ → List ℕ → ℕ → ℕ → ℕ
+heldFrom w live lengths p zero = 0
+heldFrom w live lengths p (suc n) = heldAt w live lengths p + heldFrom w live lengths (suc p) n
 
 -- 10.6: "Held bytes are the sum of the lengths of the live slices"
 unfoldable pub held : BufferPool → ℕ
-held r = heldFrom (r .live) (r .lengths) 1 slotCount
+held r = heldFrom (r .slots) (r .live) (r .lengths) 1 (r .slots)

@@ -4,6 +4,7 @@ ghost use mathlib.Core.Bool.{true};
 ghost use Prim.Native.Nat.{_+_, _-_, _≤_, _<_, _^_, min};
 ghost use lib.ListN.{length};
 ghost use lib.Seq.{sets};
+ghost use Rattle.buffer_pool.specs.Record.{mostSlots};
 ghost use Rattle.buffer_pool.specs.Moves.{memories};
 ghost use Rattle.buffer_pool.specs.Values.{values};
 ghost use Rattle.buffer_pool.specs.Calls as calls;
@@ -49,7 +50,7 @@ pub struct Shown {
     pub kind: u8,
     pub refusal: u8,
     pub mode: u8,
-    pub live: u8,
+    pub live: u16,
     pub place: Extent,
     pub frame: Starts,
 }
@@ -366,7 +367,7 @@ pub(crate) fn run_event(
     bytes: &[u8],
     e: Event,
 ) -> Step
-    requires { ⌜ (s .next ≤ length (now bytes)) × spec.Within (2 ^ 63) (s .tally) ⌝ }
+    requires { ⌜ (s .next ≤ length (now bytes)) × spec.Within (2 ^ 63) (s .tally) × (s .pool .slots ≤ mostSlots) ⌝ }
     requires { ⌜ (length (now pool) ≤ 2 ^ 32) × (length (now overflow) ≤ 2 ^ 32) × (length (now bytes) ≤ 2 ^ 32) ⌝ }
     ensures { λ r. ⌜ spec.stepped r (memories (now (pool .exit)) (now (overflow .exit))) (now (destination .exit)) ≡ spec.step (now (bytes .entry)) (spec.running s (memories (now (pool .entry)) (now (overflow .entry))) (now (destination .entry))) e ⌝ }
 {

@@ -2,6 +2,7 @@
 ghost use mathlib.Core.Path.{_≡_};
 ghost use Prim.Native.Nat.{_+_, _≤_, _<_, _^_};
 ghost use lib.IntN.{natAbs};
+ghost use Rattle.buffer_pool.specs.Record.{rustSlots, mostSlots};
 ghost use Rattle.replay.specs.Text.{output, wrote, spaced, signed};
 ghost use Rattle.replay.specs.Run.{Within};
 ghost use Rattle.replay.specs.Listing as spec;
@@ -69,21 +70,21 @@ pub(crate) fn put_first(out: &mut [u8], at: usize, capacity: u64, overflow: u64)
     put(out, d, b'\n')
 }
 
-// An event's number, kind, refusal or 0, mode and live bits.
+// An event's number, kind, refusal or 0, mode and live bits, as many as a trace's pool has slots.
 fn put_head(out: &mut [u8], at: usize, event: u64, s: Shown) -> usize
-    requires { ⌜ at < 2 ^ 59 ⌝ }
+    requires { ⌜ (at < 2 ^ 59) × (s .live < 2 ^ rustSlots) ⌝ }
     ensures { λ r. ⌜ (output r (now (out .exit)) ≡ wrote (output at (now (out .entry))) (spec.lineHead event s)) × (r ≤ at + 48) ⌝ }
 {
     let a = put_decimal(out, at, event);
     let b = put_letter(out, a, s.kind);
     let c = put_number(out, b, s.refusal as u64);
     let d = put_letter(out, c, s.mode);
-    put_hex(out, d, s.live)
+    put_hex(out, d, s.live as u8)
 }
 
 // An event's line: the head, start, length and move.
 pub(crate) fn put_line(out: &mut [u8], at: usize, event: u64, s: Shown) -> usize
-    requires { ⌜ (at < 2 ^ 58) × (s .frame .before < 2 ^ 32) × (s .frame .after < 2 ^ 32) ⌝ }
+    requires { ⌜ (at < 2 ^ 58) × (s .live < 2 ^ rustSlots) × (s .frame .before < 2 ^ 32) × (s .frame .after < 2 ^ 32) ⌝ }
     ensures { λ r. ⌜ (output r (now (out .exit)) ≡ wrote (output at (now (out .entry))) (spec.line event s)) × (r ≤ at + 128) ⌝ }
 {
     let place = s.place;
@@ -97,7 +98,7 @@ pub(crate) fn put_line(out: &mut [u8], at: usize, event: u64, s: Shown) -> usize
 
 // Line T.
 pub(crate) fn put_last(out: &mut [u8], at: usize, t: Tally, r: BufferPool) -> usize
-    requires { ⌜ (at < 2 ^ 58) × Within (2 ^ 32) t ⌝ }
+    requires { ⌜ (at < 2 ^ 58) × Within (2 ^ 32) t × (r .slots ≤ mostSlots) ⌝ }
     ensures { λ n. ⌜ (output n (now (out .exit)) ≡ wrote (output at (now (out .entry))) (spec.lastLine t r)) × (n ≤ at + 128) ⌝ }
 {
     let p = percent(t);

@@ -3,7 +3,7 @@ ghost use mathlib.Core.Path.{_≡_};
 ghost use mathlib.Core.Bool.{true};
 ghost use Prim.Native.Nat.{_+_, _≤_, _<_, _^_};
 ghost use lib.ListN.{length};
-ghost use Rattle.buffer_pool.specs.Record.{slotCount};
+ghost use Rattle.buffer_pool.specs.Record.{rustSlots};
 ghost use Rattle.buffer_pool.specs.Moves.{memories};
 ghost use Rattle.buffer_pool.specs.Soundness.{sound};
 ghost use Rattle.trace.specs.declared.Answer.the-variants.{Trace};
@@ -39,7 +39,7 @@ fn put_event(
     number: u64,
     e: Event,
 ) -> Walk
-    requires { ⌜ (w .at < 2 ^ 58) × (sound slotCount (w .state .pool) ≡ true) × (w .state .next ≤ length (now bytes)) ⌝ }
+    requires { ⌜ (w .at < 2 ^ 58) × (sound rustSlots (w .state .pool) ≡ true) × (w .state .next ≤ length (now bytes)) ⌝ }
     requires { ⌜ Within (2 ^ 63) (w .state .tally) ⌝ }
     requires { ⌜ (length (now pool) ≤ 2 ^ 32) × (length (now overflow) ≤ 2 ^ 32) × (length (now bytes) ≤ 2 ^ 32) ⌝ }
     ensures { λ r. ⌜ output (r .at) (now (out .exit)) ≡ wrote (output (w .at) (now (out .entry))) (spec.line number (step (now (bytes .entry)) (running (w .state) (memories (now (pool .entry)) (now (overflow .entry))) (now (destination .entry))) e .step .shown)) ⌝ }
@@ -68,7 +68,7 @@ fn put_events(
     bytes: &[u8],
     events: u32,
 ) -> usize
-    requires { ⌜ (w .at ≤ 1024) × (sound slotCount (w .state .pool) ≡ true) × (w .state .next ≤ length (now bytes)) ⌝ }
+    requires { ⌜ (w .at ≤ 1024) × (sound rustSlots (w .state .pool) ≡ true) × (w .state .next ≤ length (now bytes)) ⌝ }
     requires { ⌜ Within 0 (w .state .tally) ⌝ }
     requires { ⌜ (length (now pool) ≤ 2 ^ 32) × (length (now overflow) ≤ 2 ^ 32) × (length (now bytes) ≤ 2 ^ 32) ⌝ }
     requires { ⌜ events ≡ length (content (now file) .events) ⌝ }
@@ -102,7 +102,7 @@ fn put_run(
     ensures { λ r. ⌜ output r (now (out .exit)) ≡ wrote (output 0 (now (out .entry))) (spec.listingOn (memories (now (pool .entry)) (now (overflow .entry))) (now (destination .entry)) (content (now (file .entry)))) ⌝ }
 {
     let at = put_first(out, 0, pool.len() as u64, overflow.len() as u64);
-    let c = BufferPool::new(pool, overflow);
+    let c = BufferPool::new(BufferPool::POOL_CAPACITY, pool, overflow);
     let p = c.pool;
     let w = Walk {
         at: at,

@@ -1,6 +1,6 @@
 //! The answers to a calls file, as text: one line for each list and for each event.
 
-use crate::calls::{Event, List};
+use crate::calls::{Event, List, SLOTS};
 use crate::judge::{Answer, Judge};
 use std::io::{self, Write};
 
@@ -17,7 +17,7 @@ pub enum Form {
 pub fn print(lists: &[List], form: Form, out: &mut impl Write) -> io::Result<()> {
     for list in lists {
         writeln!(out, "pool {} overflow {}", list.capacity, list.overflow)?;
-        let mut judge = Judge::new(list.capacity, list.overflow);
+        let mut judge = Judge::new(SLOTS, list.capacity, list.overflow);
         for (at, event) in list.events.iter().enumerate() {
             let answer = judge.apply(event);
             print_places(at + 1, event, &answer, &judge, out)?;

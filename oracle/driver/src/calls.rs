@@ -6,6 +6,9 @@ pub const BYTE_LIMIT: u32 = 1_048_576;
 /// How many callers there are: 0 to 3.
 pub const CALLERS: usize = 4;
 
+/// How many slots the pools of calls files and traces have, which name no count.
+pub const SLOTS: usize = 8;
+
 /// Bytes in a list's head and in one event.
 const HEAD: usize = 12;
 const EVENT: usize = 16;

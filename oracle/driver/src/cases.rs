@@ -1,12 +1,13 @@
-//! The cases of SPECIFICATION 11 and the listing of 12, asked of the Rust, and callers with serials of
-//! their own. The expected values are typed in as the customers gave them; nothing here is copied from
-//! what the driver prints.
+//! The cases of SPECIFICATION 11 and the listing of 12, asked of the Rust, callers with serials of their
+//! own, and pools of 16 slots. The expected values are typed in, those of the cases as the customers gave
+//! them; nothing here is copied from what the driver prints.
 
-use crate::calls::Name;
+use crate::calls::{List, Name};
 use crate::classes::Tally;
 use crate::generate::{self, Callers, Options};
 use crate::judge::{Answer, Judge};
 use crate::moves::Move;
+use crate::pools::SLOT_COUNTS;
 use crate::text;
 
 /// Capacity 17, overflow 20, eight slices of 2 bytes taken.
@@ -21,9 +22,14 @@ struct Done {
 }
 
 fn done(text: &str) -> Done {
+    done_on(8, text)
+}
+
+/// The same on a pool of so many slots.
+fn done_on(slots: usize, text: &str) -> Done {
     let lists = text::parse(text).expect("a good text");
-    let mut done =
-        Done { judge: Judge::new(lists[0].capacity, lists[0].overflow), answers: Vec::new() };
+    let judge = Judge::new(slots, lists[0].capacity, lists[0].overflow);
+    let mut done = Done { judge, answers: Vec::new() };
     for event in &lists[0].events {
         done.answers.push(done.judge.apply(event));
     }
@@ -44,7 +50,7 @@ impl Done {
         self.judge.situation().record.mode.letter()
     }
 
-    fn live(&self) -> u8 {
+    fn live(&self) -> u16 {
         self.judge.situation().record.live
     }
 
@@ -227,42 +233,138 @@ pool 16 overflow 12
 T 10 2 50 0
 ";
 
-/// So many short lists from a seed.
-fn options(seed: u64, count: u64, events: u64, callers: Callers) -> Options {
-    Options { seed, count, capacity: 40, events, callers, cover: 0 }
+/// A pool of 16 slots, capacity 33 and an overflow of so many bytes, with so many slices of 2 bytes taken,
+/// then the events of a text.
+fn widened(overflow: usize, slices: usize, text: &str) -> Done {
+    let taken = "r 2; c 2; t\n".repeat(slices);
+    done_on(16, &format!("pool 33 overflow {overflow}\n{taken}{text}"))
+}
+
+/// A slice in each slot, and an overflow that holds every frame of the tests below.
+fn sixteen(text: &str) -> Done {
+    widened(40, 16, text)
+}
+
+/// Releases of caller 0's serials.
+fn releases(serials: std::ops::RangeInclusive<usize>) -> String {
+    serials.map(|serial| format!("d {serial}\n")).collect()
+}
+
+#[test]
+fn slot_1_of_16_is_0x8000_and_slot_16_is_0x0001() {
+    assert_eq!(sixteen("").live(), 0xffff);
+    assert_eq!(sixteen(&releases(2..=16)).live(), 0x8000);
+    assert_eq!(sixteen(&releases(1..=15)).live(), 0x0001);
+}
+
+#[test]
+fn the_seventeenth_frame_goes_to_the_overflow() {
+    assert_eq!(sixteen("r 1").placed(), ('A', 0, 1));
+}
+
+/// The first ten slots have 20 bytes.
+#[test]
+fn a_front_of_ten_slots() {
+    let first = releases(1..=10);
+    assert_eq!(sixteen(&format!("{first}r 20")).placed(), ('F', 0, 1));
+    assert_eq!(sixteen(&format!("{first}r 21")).placed(), ('A', 0, 2));
+}
+
+/// Nine slices of 1 byte in a front of 20 bytes, of which the last eight or all are released: a frame that
+/// does not fit after them goes after the one that is left, or to 0.
+#[test]
+fn a_front_drops_eight_slots_or_all_of_its_nine() {
+    let nine = releases(1..=10) + &"r 1; c 1; t\n".repeat(9);
+    let eight = sixteen(&format!("{nine}{}r 19", releases(18..=25)));
+    assert_eq!((eight.placed(), eight.live()), (('F', 1, 0), 0x803f));
+    let all = sixteen(&format!("{nine}{}r 20", releases(17..=25)));
+    assert_eq!((all.placed(), all.live()), (('F', 0, 0), 0x003f));
+}
+
+#[test]
+fn a_frame_moves_from_the_front_to_the_back_of_16() {
+    let moved = sixteen("d 1; d 2; r 3; c 3; d 15; d 16; r 2");
+    assert_eq!(moved.placed(), ('B', 31, 1));
+    assert_eq!(moved.judge.situation().record.frame_start, 28);
+    assert_eq!(sixteen("d 1; d 2; r 3; c 3; d 15; d 16; r 3").placed(), ('A', 3, 1));
+}
+
+/// The pools of SPECIFICATION 11.32 and 11.33 to 11.37, with eight and with sixteen slices taken, are the
+/// records that crates/buffer_pool/specs/AnswerCases.antt begins with.
+#[test]
+fn the_records_of_the_cases_with_16_slots() {
+    for (slices, live) in [(8, 0xff00), (16, 0xffff)] {
+        let done = widened(20, slices, "");
+        let record = done.judge.situation().record;
+        let mut slots = [(0, 0); 16];
+        (0..slices).for_each(|i| slots[i] = (2 * i, 2));
+        assert_eq!((record.mode.letter(), record.live, record.slots), ('B', live, slots));
+        assert_eq!((record.back_start, record.back_count, record.used), (0, slices, slices));
+        assert_eq!((record.frame_start, record.frame_len), (2 * slices, 0));
+        assert_eq!(done.judge.serials(), [slices as u32, 0, 0, 0]);
+    }
+}
+
+/// SPECIFICATION 11.32 to 11.37.
+#[test]
+fn the_cases_with_16_slots() {
+    let ninth = widened(20, 8, "r 2; c 2; t");
+    assert_eq!((ninth.live(), ninth.judge.situation().record.slots[8]), (0xff80, (16, 2)));
+    assert_eq!(ninth.judge.live_names()[8], Name { caller: 0, serial: 9 });
+    let sixteen = |text: &str| widened(20, 16, text);
+    let nine = releases(1..=9);
+    assert_eq!(sixteen("r 1").placed(), ('A', 0, 1));
+    assert_eq!(sixteen(&format!("{nine}r 18")).placed(), ('F', 0, 1));
+    assert_eq!(sixteen(&format!("{nine}r 19")).placed(), ('A', 0, 2));
+    assert_eq!(sixteen("d 1; d 2; d 15; d 16; r 3").placed(), ('B', 28, 0));
+    assert_eq!(sixteen("d 16; d 16").refusals(2), [0, 7]);
+}
+
+/// So many short lists from a seed, for pools with so many slots.
+fn options(slots: usize, seed: u64, count: u64, callers: Callers) -> Options {
+    let (capacity, events) = (5 * slots as u32, 15 * slots as u64);
+    Options { slots, seed, count, capacity, events, callers, cover: 0 }
 }
 
 /// Lists from a seed in the unoptimised build: no sum wraps, nothing panics, and every event is of
 /// a known class.
 #[test]
 fn generated_lists_reach_known_classes_only() {
-    let mut tally = Tally::new();
-    for list in generate::lists(&options(2, 600, 120, Callers::All)) {
-        tally.add_list(&list);
+    for slots in SLOT_COUNTS {
+        let mut tally = Tally::new(slots);
+        for list in generate::lists(&options(slots, 2, 600, Callers::All)) {
+            tally.add_list(&list);
+        }
+        assert_eq!(tally.unknown(), 0);
     }
-    assert_eq!(tally.unknown(), 0);
 }
 
 #[test]
 fn lists_of_the_first_caller_name_no_other() {
-    let lists = generate::lists(&options(3, 100, 120, Callers::First));
+    let lists = generate::lists(&options(8, 3, 100, Callers::First));
     assert!(lists.iter().flat_map(|list| &list.events).all(|event| event.caller() == 0));
 }
 
 /// A copy made by doing everything again shows what the pool shows, and answers as it does.
 #[test]
 fn a_pool_made_again_is_the_same() {
-    for list in generate::lists(&options(5, 40, 60, Callers::All)) {
-        let mut judge = Judge::new(list.capacity, list.overflow);
-        for event in &list.events {
-            let mut again = judge.again();
-            assert_eq!(again.apply(event), judge.apply(event));
-            assert_eq!(again.situation().record, judge.situation().record);
-            assert_eq!((again.frame(), again.reservation()), (judge.frame(), judge.reservation()));
-            assert_eq!(again.pool_bytes(), judge.pool_bytes());
-            assert!(again.slices().eq(judge.slices()));
-            assert_eq!(again.live_names(), judge.live_names());
-            assert_eq!(again.serials(), judge.serials());
+    for slots in SLOT_COUNTS {
+        for list in generate::lists(&options(slots, 5, 20, Callers::All)) {
+            made_again(slots, &list);
         }
+    }
+}
+
+fn made_again(slots: usize, list: &List) {
+    let mut judge = Judge::new(slots, list.capacity, list.overflow);
+    for event in &list.events {
+        let mut again = judge.again();
+        assert_eq!(again.apply(event), judge.apply(event));
+        assert_eq!(again.situation().record, judge.situation().record);
+        assert_eq!((again.frame(), again.reservation()), (judge.frame(), judge.reservation()));
+        assert_eq!(again.pool_bytes(), judge.pool_bytes());
+        assert!(again.slices().eq(judge.slices()));
+        assert_eq!(again.live_names(), judge.live_names());
+        assert_eq!(again.serials(), judge.serials());
     }
 }

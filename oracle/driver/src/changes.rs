@@ -1,4 +1,4 @@
-//! The count of `change_mode` calls on this thread, fed by the line that oracle/check inserts.
+//! The count of `change_mode` calls on this thread, fed by the line that oracle/copies inserts.
 
 use std::cell::Cell;
 

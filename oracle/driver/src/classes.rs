@@ -6,7 +6,7 @@
 use crate::calls::{Event, List, Name, View, BYTE_LIMIT, CALLERS};
 use crate::judge::{Answer, Judge, Situation, UNKNOWN_CALLER};
 use crate::moves::Move;
-use crate::record::{Mode, Record, SLOTS};
+use crate::record::{Mode, Record};
 use std::cmp::Ordering;
 
 /// Every class, in the order they are printed. Each must be reached, and no other may be.
@@ -170,31 +170,65 @@ const CLASSES: &[&str] = &[
     "overflow longer than the pool",
 ];
 
-/// How often each class was reached.
+/// The classes that a pool has besides if it has more than 8 slots.
+const WIDE: &[&str] = &[
+    "r in B, back of more than 8 slots",
+    "r in B, boundary above 8",
+    "r in F, front of more than 8 slots",
+    "r in F, more than 8 slots of the front used",
+    "r in A, more than 8 slots live",
+    "head clear, more than 8 free slots",
+    "tail clear, more than 8 slots",
+    "F drops, more than 8 slots",
+    // Where a word of 8 bits would have none set.
+    "F drops, 8 slots above a live one",
+    "t pooled, slot above 8, B",
+    "t pooled, slot above 8, F",
+    "d, slot above 8",
+    "d, all slots live",
+];
+
+/// The count above which a pool has the wide classes.
+const NARROW: usize = 8;
+
+/// The classes of pools with so many slots, in the order they are printed.
+fn table(slots: usize) -> impl Iterator<Item = &'static str> {
+    let wide = if slots > NARROW { WIDE } else { &[] };
+    CLASSES.iter().chain(wide).copied()
+}
+
+/// How often each class was reached by pools with so many slots.
 pub struct Tally {
+    slots: usize,
     counts: Vec<u64>,
     /// Names that are not in the table.
     unknown: Vec<String>,
 }
 
 impl Tally {
-    pub fn new() -> Tally {
-        Tally { counts: vec![0; CLASSES.len()], unknown: Vec::new() }
+    pub fn new(slots: usize) -> Tally {
+        Tally { slots, counts: vec![0; table(slots).count()], unknown: Vec::new() }
+    }
+
+    /// The index of a class.
+    fn position(&self, name: &str) -> Option<usize> {
+        table(self.slots).position(|class| class == name)
     }
 
     /// Runs a list and counts what it reaches.
     pub fn add_list(&mut self, list: &List) {
         self.add(&memories(list.capacity, list.overflow));
-        run(list, |_, names| self.add(names));
+        run(self.slots, list, |_, names| self.add(names));
     }
 
     /// How many events of the list come before the last one, and with it, that reaches a class
     /// which was reached fewer than `times` times until then.
     pub fn gaining(&self, list: &List, times: u64) -> usize {
-        let mut reached = Tally { counts: self.counts.clone(), unknown: Vec::new() };
+        let mut reached = Tally { counts: self.counts.clone(), ..Tally::new(self.slots) };
         let mut gaining = 0;
-        run(list, |at, names| {
-            let few = |name: &String| position(name).is_some_and(|at| reached.counts[at] < times);
+        run(self.slots, list, |at, names| {
+            let few =
+                |name: &String| self.position(name).is_some_and(|at| reached.counts[at] < times);
             if names.iter().any(few) {
                 gaining = at + 1;
             }
@@ -205,7 +239,7 @@ impl Tally {
 
     /// Takes a counted list back, if each class stays reached `times` times, or as often as it was.
     pub fn spare(&mut self, list: &List, times: u64) -> bool {
-        let mut its = Tally::new();
+        let mut its = Tally::new(self.slots);
         its.add_list(list);
         let mut pairs = self.counts.iter().zip(&its.counts);
         let spared = pairs.all(|(&all, &less)| all - less >= all.min(times));
@@ -218,7 +252,7 @@ impl Tally {
     /// Counts classes.
     pub fn add(&mut self, names: &[String]) {
         for name in names {
-            match position(name) {
+            match self.position(name) {
                 Some(at) => self.counts[at] += 1,
                 None => self.unknown.push(name.clone()),
             }
@@ -227,7 +261,7 @@ impl Tally {
 
     /// The counts, a line each, then the names that are not in the table.
     pub fn report(&self) -> String {
-        let known = CLASSES.iter().zip(&self.counts);
+        let known = table(self.slots).zip(&self.counts);
         let mut lines: Vec<String> = known.map(|(class, n)| format!("{n:>9}  {class}\n")).collect();
         lines.extend(self.unknown.iter().map(|name| format!("  unknown  {name}\n")));
         lines.concat()
@@ -251,13 +285,9 @@ impl Tally {
     }
 }
 
-fn position(name: &str) -> Option<usize> {
-    CLASSES.iter().position(|class| *class == name)
-}
-
-/// Runs a list and gives each event's index and classes.
-fn run(list: &List, mut each: impl FnMut(usize, &[String])) {
-    let mut judge = Judge::new(list.capacity, list.overflow);
+/// Runs a list on a pool with so many slots and gives each event's index and classes.
+fn run(slots: usize, list: &List, mut each: impl FnMut(usize, &[String])) {
+    let mut judge = Judge::new(slots, list.capacity, list.overflow);
     for (at, event) in list.events.iter().enumerate() {
         let before = judge.situation();
         let answer = judge.apply(event);
@@ -286,7 +316,7 @@ fn holding(all: &[(bool, &str)]) -> Vec<String> {
 
 /// The classes of one event.
 pub fn classes(before: &Situation, event: &Event, answer: &Answer, judge: &Judge) -> Vec<String> {
-    match *event {
+    let mut names = match *event {
         Event::Reserve(len) if answer.refusal == 0 => reserve(before, len, answer, judge),
         Event::Reserve(len) => refused_reserve(before, len),
         Event::Commit(len) => commit(before, len, answer),
@@ -294,7 +324,11 @@ pub fn classes(before: &Situation, event: &Event, answer: &Answer, judge: &Judge
         Event::Truncate(len) => truncate(before, len),
         Event::Release(name) => release(before, name, answer, judge),
         Event::Write { view, index, .. } => write(before, view, index, answer, judge),
+    };
+    if before.record.count > NARROW && answer.refusal == 0 {
+        names.extend(wide(before, event, answer, judge));
     }
+    names
 }
 
 fn letter(situation: &Situation) -> char {
@@ -318,8 +352,8 @@ fn resets(at: &Situation) -> bool {
 
 /// How many tail slots of the back are free, and whether the tail is clearable.
 fn free_tail(record: &Record) -> (usize, bool) {
-    let free = (SLOTS - record.back_start).min(record.live.trailing_zeros() as usize);
-    (free, free <= record.back_count && record.back_start + record.back_count >= SLOTS)
+    let free = record.free_tail().min(record.count - record.back_start);
+    (free, free <= record.back_count && record.back_start + record.back_count >= record.count)
 }
 
 /// Whether a reserve in front mode does not fit at once and finds own tail slots to drop.
@@ -459,8 +493,7 @@ fn clears(before: &Situation, after: &Situation, changes: u32) -> Option<String>
     if resets(before) {
         return None;
     }
-    let free_head = before.record.live.leading_zeros() as usize;
-    let boundary = match free_head.cmp(&before.record.back_start) {
+    let boundary = match before.record.free_head().cmp(&before.record.back_start) {
         Ordering::Greater => "head clear, boundary moves",
         Ordering::Equal => "head clear, boundary stays",
         Ordering::Less => "head clear, below a live front slot",
@@ -476,16 +509,23 @@ fn clears(before: &Situation, after: &Situation, changes: u32) -> Option<String>
     Some(name.to_string())
 }
 
-/// Where a front that drops its own freed slots puts the frame.
-fn front_drop(before: &Situation, len: u64) -> Option<String> {
+/// How many slots a front drops of its own in a reserve without a reset, and whether a live one is left
+/// before them.
+fn dropped(before: &Situation, len: u64) -> Option<(usize, bool)> {
     let Mode::Front { used, .. } = before.record.mode else {
         return None;
     };
     if resets(before) || !front_drops(before, len) {
         return None;
     }
-    let live_below = (1..used).any(|p| before.record.is_live(p));
-    let name = if live_below { "F drops, frame after a live slot" } else { "F drops, frame to 0" };
+    let left = (1..used).rev().find(|&p| before.record.is_live(p)).unwrap_or(0);
+    Some((used - left, left > 0))
+}
+
+/// Where a front that drops its own freed slots puts the frame.
+fn front_drop(before: &Situation, len: u64) -> Option<String> {
+    let (_, live_left) = dropped(before, len)?;
+    let name = if live_left { "F drops, frame after a live slot" } else { "F drops, frame to 0" };
     Some(name.to_string())
 }
 
@@ -691,4 +731,43 @@ fn slice_write(name: Name, written: bool, live: bool, judge: &Judge) -> Vec<Stri
         _ => "w slice, not live, another caller's live slice has the serial",
     };
     holding(&[(true, class), (shared(name, judge), of_two)])
+}
+
+/// The wide classes of an event that was done.
+fn wide(before: &Situation, event: &Event, answer: &Answer, judge: &Judge) -> Vec<String> {
+    let after = judge.situation();
+    let (old, new) = (&before.record, &after.record);
+    let above = (NARROW + 1..=old.count).any(|p| old.is_live(p) != new.is_live(p));
+    match *event {
+        Event::Reserve(len) => wide_reserve(before, len, &after, answer.changes),
+        Event::Take { .. } if above => vec![format!("t pooled, slot above 8, {}", letter(before))],
+        Event::Release(_) => holding(&[
+            (above, "d, slot above 8"),
+            (old.live.count_ones() as usize == old.count, "d, all slots live"),
+        ]),
+        _ => Vec::new(),
+    }
+}
+
+fn wide_reserve(before: &Situation, len: u64, after: &Situation, changes: u32) -> Vec<String> {
+    let (old, new) = (&before.record, &after.record);
+    let (in_back, in_overflow) = (new.mode == Mode::Back, new.mode == Mode::Overflow);
+    let (front, front_used) = match new.mode {
+        Mode::Front { slots, used, .. } => (slots, used),
+        _ => (0, 0),
+    };
+    let cleared = clears(before, after, changes).unwrap_or_default();
+    let (head, tail) = (cleared.starts_with("head clear"), cleared.starts_with("tail clear"));
+    let dropped = dropped(before, len);
+    holding(&[
+        (in_back && new.back_count > NARROW, "r in B, back of more than 8 slots"),
+        (in_back && new.back_start > NARROW, "r in B, boundary above 8"),
+        (front > NARROW, "r in F, front of more than 8 slots"),
+        (front_used > NARROW, "r in F, more than 8 slots of the front used"),
+        (in_overflow && new.live.count_ones() as usize > NARROW, "r in A, more than 8 slots live"),
+        (head && old.free_head() > NARROW, "head clear, more than 8 free slots"),
+        (tail && old.back_count > new.back_count + NARROW, "tail clear, more than 8 slots"),
+        (dropped.is_some_and(|(slots, _)| slots > NARROW), "F drops, more than 8 slots"),
+        (dropped == Some((NARROW, true)), "F drops, 8 slots above a live one"),
+    ])
 }

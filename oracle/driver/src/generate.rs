@@ -5,10 +5,12 @@ use crate::calls::{Event, List, Name, View, CALLERS};
 use crate::classes::Tally;
 use crate::judge::{Judge, Situation};
 use crate::random::Random;
-use crate::record::{Mode, SLOTS};
+use crate::record::Mode;
 
 /// What lists to make.
 pub struct Options {
+    /// How many slots the pools have, 8 or 16.
+    pub slots: usize,
     pub seed: u64,
     /// How many lists are made.
     pub count: u64,
@@ -36,14 +38,14 @@ pub fn lists(options: &Options) -> Vec<List> {
     let all = (0..options.count).map(|_| list(&mut random, options));
     match options.cover {
         0 => all.collect(),
-        times => cover(all, times),
+        times => cover(all, options.slots, times),
     }
 }
 
 /// Of many lists, enough to reach each class this many times, where the many do. Of each list only
 /// the events up to the last that helps are kept; then lists that the later ones make needless go.
-fn cover(all: impl Iterator<Item = List>, times: u64) -> Vec<List> {
-    let mut reached = Tally::new();
+fn cover(all: impl Iterator<Item = List>, slots: usize, times: u64) -> Vec<List> {
+    let mut reached = Tally::new(slots);
     let mut kept = Vec::new();
     for mut list in all {
         list.events.truncate(reached.gaining(&list, times));
@@ -58,10 +60,10 @@ fn cover(all: impl Iterator<Item = List>, times: u64) -> Vec<List> {
 
 /// Makes one list, doing each event to a real pool as it is chosen.
 fn list(random: &mut Random, options: &Options) -> List {
-    let (capacity, overflow) = lengths(random, options.capacity);
+    let (capacity, overflow) = lengths(random, options.slots, options.capacity);
     let count = random.within(1, options.events);
-    let mut judge = Judge::new(capacity, overflow);
-    let mut author = Author::new(random, capacity, options.callers);
+    let mut judge = Judge::new(options.slots, capacity, overflow);
+    let mut author = Author::new(random, options.slots, capacity, options.callers);
     let mut next = || {
         let event = author.choose(&judge);
         judge.apply(&event);
@@ -71,16 +73,16 @@ fn list(random: &mut Random, options: &Options) -> List {
     List { capacity, overflow, events }
 }
 
-/// The lengths of a pool memory of at most this many bytes and of an overflow for it.
-pub fn lengths(random: &mut Random, most: u32) -> (u32, u32) {
-    let capacity = capacity(random, most);
+/// The lengths of a pool memory of at most this many bytes, for so many slots, and of an overflow for it.
+pub fn lengths(random: &mut Random, slots: usize, most: u32) -> (u32, u32) {
+    let capacity = capacity(random, slots, most);
     (capacity, overflow(random, capacity))
 }
 
 /// Mostly room for a slice in each slot.
-fn capacity(random: &mut Random, most: u32) -> u32 {
+fn capacity(random: &mut Random, slots: usize, most: u32) -> u32 {
     let most = u64::from(most);
-    let slots = most.min(SLOTS as u64);
+    let slots = most.min(slots as u64);
     let (few, some) = (random.within(0, slots), random.within(slots, most));
     let choices = [(1, 0), (1, 1.min(most)), (2, few), (12, some), (2, most)];
     random.weighed(&choices) as u32
@@ -127,7 +129,7 @@ pub struct Author<'a> {
     callers: Callers,
     /// The order in which slices are released, chosen anew for each run of releases.
     order: Order,
-    /// The longest of the small reservations: eight of them fit in the pool.
+    /// The longest of the small reservations: one for each slot fits in the pool.
     small: u64,
     /// Whether slices are taken until all slots are used.
     filling: bool,
@@ -136,12 +138,17 @@ pub struct Author<'a> {
 }
 
 impl<'a> Author<'a> {
-    /// One who writes for a pool of this capacity, on behalf of these callers.
-    pub fn new(random: &'a mut Random, capacity: u32, callers: Callers) -> Author<'a> {
+    /// One who writes for a pool of so many slots and this capacity, on behalf of these callers.
+    pub fn new(
+        random: &'a mut Random,
+        slots: usize,
+        capacity: u32,
+        callers: Callers,
+    ) -> Author<'a> {
         Author {
             callers,
             order: Order::First,
-            small: random.within(1, u64::from(capacity / SLOTS as u32).max(1)),
+            small: random.within(1, u64::from(capacity / slots as u32).max(1)),
             filling: random.chance(FILLS),
             run: 0,
             random,
@@ -162,7 +169,7 @@ impl<'a> Author<'a> {
             Act::WriteFrame => self.write(View::Frame, at.frame_len),
             Act::WriteSlice => {
                 let name = self.any_name(judge);
-                self.write(View::Slice(name), at.capacity / SLOTS)
+                self.write(View::Slice(name), at.capacity / at.record.count)
             }
         }
     }
@@ -212,12 +219,13 @@ impl<'a> Author<'a> {
         } else {
             40
         };
-        let release = match live.count_ones() {
+        let release = match live.count_ones() as usize {
             0 => 1,
             _ if self.filling => 1,
             _ if lingers => 40,
+            _ if front_open(at) && wide(at) => 1,
             _ if front_open(at) => 5,
-            8 => 80,
+            all if all == at.record.count => 80,
             _ if used_up(at) => 16,
             _ if back_gone => 12,
             _ => 3,
@@ -237,7 +245,10 @@ impl<'a> Author<'a> {
     /// Small lengths while slots are to be used, edges of what fits once some are.
     fn reserve_len(&mut self, at: &Situation) -> u64 {
         let small = match at.record.mode {
-            Mode::Front { bytes, .. } => self.random.within(1, (bytes as u64 / 3).max(1)),
+            Mode::Front { bytes, .. } => {
+                let few = if wide(at) { 6 } else { 3 };
+                self.random.within(1, (bytes / few).max(1) as u64)
+            }
             _ => self.random.within(1, self.small),
         };
         let any = self.random.below(at.capacity as u64 + 2);
@@ -245,6 +256,7 @@ impl<'a> Author<'a> {
         let huge = self.huge(at);
         let (small_weight, edge_weight) = match at.record.mode {
             _ if self.filling => (2000, 30),
+            Mode::Front { .. } if front_open(at) && wide(at) => (1500, 30),
             Mode::Front { .. } if front_open(at) => (90, 30),
             _ => (30, 40),
         };
@@ -261,7 +273,7 @@ impl<'a> Author<'a> {
         }
         let past_frame = |edge: usize| edge.saturating_sub(at.frame_len);
         edges.push(past_frame(at.capacity));
-        for (p, (start, len)) in (1..=SLOTS).zip(at.record.slots) {
+        for (p, (start, len)) in (1..=at.record.count).zip(at.record.slots) {
             if at.record.is_live(p) {
                 edges.push(past_frame(start));
                 edges.push(past_frame(at.capacity - (start + len)));
@@ -341,6 +353,10 @@ impl<'a> Author<'a> {
             self.run -= 1;
         } else if self.random.chance(50) {
             self.run = self.random.below(live.len() as u64 + 1);
+            // Of so many, all would seldom be released.
+            if live.len() > 8 && self.random.chance(30) {
+                self.run = live.len() as u64;
+            }
             self.order = self.random.pick(&[Order::First, Order::First, Order::Last, Order::Any]);
         }
         match self.order {
@@ -376,12 +392,19 @@ impl<'a> Author<'a> {
     }
 }
 
-/// Whether the front has slots for more slices yet than the one before its last.
+/// Whether the front has slots for more slices yet than the one before its last, all but four of the
+/// pool's being enough.
 fn front_open(at: &Situation) -> bool {
-    matches!(at.record.mode, Mode::Front { slots, used, .. } if used + 1 < slots.min(4))
+    let enough = at.record.count - 4;
+    matches!(at.record.mode, Mode::Front { slots, used, .. } if used + 1 < slots.min(enough))
+}
+
+/// Whether the pool has more than 8 slots: a front comes to use many only if little else is done meanwhile.
+fn wide(at: &Situation) -> bool {
+    at.record.count > 8
 }
 
 /// Whether the back has come to the last slot.
 fn used_up(at: &Situation) -> bool {
-    at.record.back_start + at.record.back_count >= SLOTS
+    at.record.back_start + at.record.back_count >= at.record.count
 }

@@ -3,8 +3,8 @@
 use crate::calls::{Event, Name, View, CALLERS};
 use crate::changes;
 use crate::moves::{self, Move};
-use crate::record::{mask, slot_of, Mode, Pool, Record, SLOTS};
-use buffer_sv2::{Buffer, Slice};
+use crate::pools::{new_pool, Pool, Slice, MOST_SLOTS};
+use crate::record::{slot_of, Mode, Record};
 
 /// The refusals of SPECIFICATION 3.3 that a call on a sound record can meet.
 pub const OVERFLOW_TOO_SHORT: u8 = 4;
@@ -51,22 +51,23 @@ pub struct Situation {
 /// A slice that was taken out of the pool and not released.
 struct Held {
     name: Name,
-    slice: Slice,
+    slice: Box<dyn Slice>,
     start: usize,
 }
 
 /// A real pool, with what its callers hold.
 pub struct Judge {
-    pool: Pool,
+    pool: Box<dyn Pool>,
     /// Where the pool memory starts.
     base: *const u8,
+    slots: usize,
     capacity: usize,
     overflow: usize,
     /// The range last offered by a reserve. It is read only while it is not spent.
     offer: *mut u8,
     reserved: usize,
     /// The held slices, by slot.
-    held: [Option<Held>; SLOTS],
+    held: [Option<Held>; MOST_SLOTS],
     /// Serials given to each caller.
     serials: [u32; CALLERS],
     /// Every call that was not refused and every write that reached its view: what a twin replays.
@@ -75,14 +76,15 @@ pub struct Judge {
 }
 
 impl Judge {
-    /// A new pool. Its first reservation, of no bytes, shows where its memory starts.
-    pub fn new(capacity: u32, overflow: u32) -> Judge {
-        let mut pool = Pool::new(capacity as usize);
+    /// A new pool of 8 or 16 slots. Its first reservation, of no bytes, shows where its memory starts.
+    pub fn new(slots: usize, capacity: u32, overflow: u32) -> Judge {
+        let mut pool = new_pool(slots, capacity as usize);
         let offer = pool.reserve(0).as_mut_ptr();
-        let record = Record::read(&pool);
+        let record = Record::read(slots, &*pool);
         Judge {
             pool,
             base: offer,
+            slots,
             capacity: capacity as usize,
             overflow: overflow as usize,
             offer,
@@ -108,7 +110,7 @@ impl Judge {
             self.accepted.push(*event);
         }
         if event.letter() != 'w' {
-            self.record = Record::read(&self.pool);
+            self.record = Record::read(self.slots, &*self.pool);
             self.cross_check();
         }
         answer
@@ -116,7 +118,7 @@ impl Judge {
 
     /// 4 if the Rust would use the heap for more than the overflow has; else what it offers.
     fn reserve(&mut self, len: u64) -> Answer {
-        let needed = self.pool.len() as u128 + u128::from(len);
+        let needed = self.pool.frame_len() as u128 + u128::from(len);
         if needed > self.overflow as u128 && self.would_use_overflow(len) {
             return Answer::refused(OVERFLOW_TOO_SHORT);
         }
@@ -137,7 +139,7 @@ impl Judge {
     /// Whether a reserve would end in the overflow: a twin tries it. A length above the capacity
     /// fits nowhere in the pool, so one byte above it decides the same and allocates little.
     fn would_use_overflow(&self, len: u64) -> bool {
-        let mut twin = replay(self.capacity, &self.accepted);
+        let mut twin = replay(self.slots, self.capacity, &self.accepted);
         twin.pool.reserve(len.min(self.capacity as u64 + 1) as usize);
         twin.pool.is_alloc_mode()
     }
@@ -162,19 +164,20 @@ impl Judge {
         if self.pool.is_alloc_mode() && len as u64 > destination {
             return Answer::refused(DESTINATION_TOO_SHORT);
         }
-        let slice = self.pool.get_data_owned();
+        let slice = self.pool.take();
         self.reserved = 0;
-        assert_eq!(slice.len(), len, "a take gives the frame");
-        match slot_of(&slice) {
+        let bytes: &[u8] = (*slice).as_ref();
+        assert_eq!(bytes.len(), len, "a take gives the frame");
+        match slot_of(&*slice) {
             Some(slot) => {
-                assert_eq!(slice.as_ref().as_ptr(), self.base.wrapping_add(start));
+                assert_eq!(bytes.as_ptr(), self.base.wrapping_add(start));
                 let serial = &mut self.serials[usize::from(caller)];
                 *serial += 1;
                 let held = Held { name: Name { caller, serial: *serial }, slice, start };
                 assert!(self.held[slot - 1].replace(held).is_none(), "the slot was free");
                 Answer::place((start, len))
             }
-            None => Answer { copied: slice.as_ref().to_vec(), ..Answer::place((0, len)) },
+            None => Answer { copied: bytes.to_vec(), ..Answer::place((0, len)) },
         }
     }
 
@@ -189,7 +192,7 @@ impl Judge {
         match self.find(name) {
             Some(at) => {
                 let held = self.held[at].take().expect("found");
-                Answer::place((held.start, held.slice.len()))
+                Answer::place(held.place())
             }
             None => Answer::refused(NOT_LIVE),
         }
@@ -225,7 +228,7 @@ impl Judge {
             View::Frame => self.pool.frame_mut(),
             View::Slice(name) => {
                 let at = self.find(name).expect("a live slice");
-                self.held[at].as_mut().expect("found").slice.as_mut()
+                (*self.held[at].as_mut().expect("found").slice).as_mut()
             }
         }
     }
@@ -253,13 +256,14 @@ impl Judge {
 
     /// What can be seen in two ways is the same in both.
     fn cross_check(&self) {
-        let held = (1..=SLOTS).filter(|&p| self.held[p - 1].is_some());
-        assert_eq!(held.fold(0, |bits, p| bits | mask(p)), self.record.live, "live bits");
-        for (p, held) in (1..=SLOTS).zip(&self.held) {
+        let mut live = 0;
+        for (p, held) in (1..).zip(&self.held) {
             if let Some(held) = held {
+                live |= self.record.mask(p);
                 assert_eq!(held.place(), self.record.slots[p - 1], "slot {p}");
             }
         }
+        assert_eq!(live, self.record.live, "live bits");
         if self.record.mode != Mode::Overflow {
             let place = (self.record.frame_start, self.record.frame_len);
             assert_eq!(self.frame_place(), place, "the frame");
@@ -271,7 +275,7 @@ impl Judge {
             record: self.record,
             capacity: self.capacity,
             overflow: self.overflow,
-            frame_len: self.pool.len(),
+            frame_len: self.pool.frame_len(),
             reserved: self.reserved,
         }
     }
@@ -300,16 +304,16 @@ impl Judge {
         unsafe { std::slice::from_raw_parts(self.offer, self.reserved) }
     }
 
-    /// The live slices with their slots, 1 to 8, in that order.
+    /// The live slices with their slots, in the order of these.
     pub fn slices(&self) -> impl Iterator<Item = (usize, &[u8])> {
-        let live = |(p, held)| Option::as_ref(held).map(|held: &Held| (p, held.slice.as_ref()));
-        (1..=SLOTS).zip(&self.held).filter_map(live)
+        let live = |(p, held)| Option::as_ref(held).map(|held: &Held| (p, held.bytes()));
+        (1..).zip(&self.held).filter_map(live)
     }
 
-    /// Name, start and length of the live slice in slot `p`, of 1 to 8.
+    /// Name, start and length of the live slice in slot `p`, from 1 on.
     pub fn slice_place(&self, p: usize) -> Option<(Name, usize, usize)> {
         let held = self.held[p - 1].as_ref()?;
-        Some((held.name, held.start, held.slice.len()))
+        Some((held.name, held.start, held.bytes().len()))
     }
 
     /// Every byte of the pool memory.
@@ -319,7 +323,7 @@ impl Judge {
 
     /// Another pool that has had the same calls and writes.
     pub fn again(&self) -> Judge {
-        let mut twin = replay(self.capacity, &self.accepted);
+        let mut twin = replay(self.slots, self.capacity, &self.accepted);
         let mut held = |held: &Option<Held>| {
             let Held { name, start, .. } = *held.as_ref()?;
             let slice = twin.slice(name).take().expect("a live slice");
@@ -342,24 +346,28 @@ fn past_end(event: &Event, answer: &Answer) -> bool {
 }
 
 impl Held {
+    fn bytes(&self) -> &[u8] {
+        (*self.slice).as_ref()
+    }
+
     fn place(&self) -> (usize, usize) {
-        (self.start, self.slice.len())
+        (self.start, self.bytes().len())
     }
 }
 
 /// A pool that has had the same calls and writes, and the slices that it gave.
 struct Twin {
-    pool: Pool,
+    pool: Box<dyn Pool>,
     /// Where the pool memory starts, and the range last offered.
     base: *const u8,
     offer: *mut u8,
     /// By caller, then by serial.
-    slices: [Vec<Option<Slice>>; CALLERS],
+    slices: [Vec<Option<Box<dyn Slice>>>; CALLERS],
 }
 
 /// Does accepted calls and writes again on a new pool.
-fn replay(capacity: usize, accepted: &[Event]) -> Twin {
-    let mut pool = Pool::new(capacity);
+fn replay(slots: usize, capacity: usize, accepted: &[Event]) -> Twin {
+    let mut pool = new_pool(slots, capacity);
     let offer = pool.reserve(0).as_mut_ptr();
     let mut twin = Twin { pool, base: offer, offer, slices: Default::default() };
     for event in accepted {
@@ -378,15 +386,15 @@ fn replay(capacity: usize, accepted: &[Event]) -> Twin {
 impl Twin {
     /// Takes, and keeps a pooled slice under its caller and serial.
     fn take(&mut self, caller: u8) {
-        let pooled = !self.pool.is_alloc_mode() && !self.pool.is_empty();
-        let slice = self.pool.get_data_owned();
+        let pooled = !self.pool.is_alloc_mode() && self.pool.frame_len() > 0;
+        let slice = self.pool.take();
         if pooled {
             self.slices[usize::from(caller)].push(Some(slice));
         }
     }
 
     /// The slice that was given with this name, if it is live.
-    fn slice(&mut self, name: Name) -> &mut Option<Slice> {
+    fn slice(&mut self, name: Name) -> &mut Option<Box<dyn Slice>> {
         &mut self.slices[usize::from(name.caller)][name.serial as usize - 1]
     }
 
@@ -397,7 +405,7 @@ impl Twin {
             View::Frame => self.pool.frame_mut()[index] = value,
             View::Slice(name) => {
                 let slice = self.slice(name).as_mut().expect("a live slice");
-                slice.as_mut()[index] = value;
+                (**slice).as_mut()[index] = value;
             }
         }
     }

@@ -10,6 +10,7 @@ pub mod classes;
 pub mod generate;
 pub mod judge;
 mod moves;
+pub mod pools;
 pub mod random;
 pub mod record;
 pub mod text;

@@ -54,6 +54,7 @@ fn run(form: Form) -> Result<(), String> {
 
 fn gen(seed: &str, count: &str, words: &[&str]) -> Result<(), String> {
     let mut options = generate::Options {
+        slots: calls::SLOTS,
         seed: number(seed)?,
         count: number(count)?,
         capacity: 40,
@@ -75,7 +76,7 @@ fn gen(seed: &str, count: &str, words: &[&str]) -> Result<(), String> {
 
 /// Prints the counts, and fails if one of them is 0.
 fn classes() -> Result<(), String> {
-    let mut tally = classes::Tally::new();
+    let mut tally = classes::Tally::new(calls::SLOTS);
     for list in &read_calls()? {
         tally.add_list(list);
     }

@@ -1,4 +1,4 @@
-//! The moves of the frame on this thread, fed by the lines that oracle/check inserts.
+//! The moves of the frame on this thread, fed by the lines that oracle/copies inserts.
 
 use std::cell::RefCell;
 

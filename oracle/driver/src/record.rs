@@ -1,13 +1,7 @@
 //! The pool's private numbers, read from its `Debug` text.
 
-use buffer_sv2::{BufferFromSystemMemory, BufferPool, Slice};
+use crate::pools::{Pool, Slice, MOST_SLOTS};
 use std::fmt::{self, Write};
-
-/// The pool that is judged by.
-pub type Pool = BufferPool<BufferFromSystemMemory>;
-
-/// How many slots a pool has.
-pub const SLOTS: usize = 8;
 
 /// Where the pool places its frame.
 #[derive(Clone, Copy, Debug, PartialEq)]
@@ -36,15 +30,17 @@ impl Mode {
 /// The numbers of the pool that decide where it places. Of the overflow it holds nothing.
 #[derive(Clone, Copy, Debug, PartialEq)]
 pub struct Record {
+    /// How many slots the pool has.
+    pub count: usize,
     pub mode: Mode,
-    pub live: u8,
+    pub live: u16,
     pub back_start: usize,
     pub back_count: usize,
     /// Start and length of the frame, if it lies in the pool.
     pub frame_start: usize,
     pub frame_len: usize,
-    /// Start and length of each slot's slice, live or not.
-    pub slots: [(usize, usize); SLOTS],
+    /// Start and length of each slot's slice, live or not, and zeros above the count.
+    pub slots: [(usize, usize); MOST_SLOTS],
     /// Slots used.
     pub used: usize,
 }
@@ -73,15 +69,16 @@ fn text_until(word: &'static str, value: &dyn fmt::Debug) -> (String, bool) {
 }
 
 impl Record {
-    /// Reads the record. Panics if the text is not what the published files print.
-    pub fn read(pool: &Pool) -> Record {
-        let (text, stopped) = text_until("system_memory", pool);
+    /// Reads the record of a pool with so many slots. Panics if the text is not what the published files
+    /// print.
+    pub fn read(count: usize, pool: &dyn Pool) -> Record {
+        let (text, stopped) = text_until("system_memory", &pool);
         assert!(stopped, "the overflow comes after all that is read");
-        Record::parse(&text)
+        Record::parse(count, &text)
     }
 
     /// The numbers stand in the order of the fields; only a front has numbers of its own.
-    fn parse(text: &str) -> Record {
+    fn parse(count: usize, text: &str) -> Record {
         let mut numbers = numbers(text);
         let mut next = || numbers.next().expect("a number for each field");
         let (back_start, back_count) = (next(), next());
@@ -94,24 +91,37 @@ impl Record {
             assert!(text.contains("mode: Alloc"), "a known mode");
             Mode::Overflow
         };
-        let live = u8::try_from(next()).expect("eight live bits");
+        let live = next();
+        assert!(live < 1 << count, "a live bit for each slot");
         let _capacity = next();
         let (frame_start, frame_len) = (next(), next());
-        let slots = std::array::from_fn(|_| (next(), next()));
+        let mut slots = [(0, 0); MOST_SLOTS];
+        slots[..count].fill_with(|| (next(), next()));
         let used = next();
         assert!(numbers.next().is_none(), "no other number");
-        Record { mode, live, back_start, back_count, frame_start, frame_len, slots, used }
+        let live = live as u16;
+        Record { count, mode, live, back_start, back_count, frame_start, frame_len, slots, used }
     }
 
-    /// Whether slot `p`, of 1 to 8, is live.
+    /// The bit of slot `p`, of 1 to the count.
+    pub fn mask(&self, p: usize) -> u16 {
+        1 << (self.count - p)
+    }
+
+    /// Whether slot `p`, of 1 to the count, is live.
     pub fn is_live(&self, p: usize) -> bool {
-        self.live & mask(p) != 0
+        self.live & self.mask(p) != 0
     }
-}
 
-/// The bit of slot `p`, of 1 to 8.
-pub fn mask(p: usize) -> u8 {
-    0x80 >> (p - 1)
+    /// How many slots are free before the first live one.
+    pub fn free_head(&self) -> usize {
+        (1..=self.count).take_while(|&p| !self.is_live(p)).count()
+    }
+
+    /// How many slots are free after the last live one.
+    pub fn free_tail(&self) -> usize {
+        (1..=self.count).rev().take_while(|&p| !self.is_live(p)).count()
+    }
 }
 
 /// The decimal numbers in a text, in order.
@@ -121,9 +131,9 @@ fn numbers(text: &str) -> impl Iterator<Item = usize> + '_ {
         .map(|digits| digits.parse().expect("a number of 64 bits"))
 }
 
-/// The slot of a slice, 1 to 8, or none if it owns its bytes.
-pub fn slot_of(slice: &Slice) -> Option<usize> {
-    let (text, owned) = text_until("Heap", slice);
+/// The slot of a slice, from 1 on, or none if it owns its bytes.
+pub fn slot_of(slice: &dyn Slice) -> Option<usize> {
+    let (text, owned) = text_until("Heap", &slice);
     if owned {
         return None;
     }
@@ -135,30 +145,36 @@ pub fn slot_of(slice: &Slice) -> Option<usize> {
 #[cfg(test)]
 mod tests {
     use super::*;
-    use buffer_sv2::Buffer;
+    use crate::pools::{new_pool, SLOT_COUNTS};
 
+    /// All slots are used by slices of 2 bytes, two of which are released, and the frame has 3.
     #[test]
     fn the_record_of_a_pool_in_front_mode() {
-        let mut pool = Pool::new(17);
-        let mut slices = Vec::new();
-        for _ in 0..SLOTS {
-            pool.reserve(2);
-            pool.commit(2);
-            slices.push(pool.get_data_owned());
+        for count in SLOT_COUNTS {
+            let mut pool = new_pool(count, 2 * count + 1);
+            let mut slices = Vec::new();
+            for _ in 0..count {
+                pool.reserve(2);
+                pool.commit(2);
+                slices.push(pool.take());
+            }
+            assert_eq!(slot_of(&*slices[count - 1]), Some(count));
+            slices.drain(..2);
+            pool.reserve(3);
+            pool.commit(3);
+            let record = Record::read(count, &*pool);
+            assert_eq!(record.mode, Mode::Front { slots: 2, bytes: 4, used: 0 });
+            assert_eq!(record.live, if count == 8 { 0x3f } else { 0x3fff });
+            assert_eq!((record.back_start, record.back_count), (2, count - 2));
+            assert_eq!((record.frame_start, record.frame_len), (0, 3));
+            assert_eq!((record.slots[count - 1], record.used), ((2 * count - 2, 2), 0));
+            assert_eq!((record.free_head(), record.free_tail()), (2, 0));
         }
-        assert_eq!(slot_of(&slices[4]), Some(5));
-        slices.drain(..2);
-        pool.reserve(3);
-        pool.commit(3);
-        let record = Record::read(&pool);
-        assert_eq!(record.mode, Mode::Front { slots: 2, bytes: 4, used: 0 });
-        assert_eq!((record.live, record.back_start, record.back_count), (0x3f, 2, 6));
-        assert_eq!((record.frame_start, record.frame_len), (0, 3));
-        assert_eq!((record.slots[7], record.used), ((14, 2), 0));
     }
 
     #[test]
     fn a_slice_of_its_own_has_no_slot() {
-        assert_eq!(slot_of(&Slice::from(vec![1, 2, 3])), None);
+        assert_eq!(slot_of(&buffer_sv2::Slice::from(vec![1, 2, 3])), None);
+        assert_eq!(slot_of(&buffer_sv2_widened::Slice::from(vec![1, 2, 3])), None);
     }
 }

@@ -1,7 +1,7 @@
 //! Traces: written from a list, run on the Rust, and made good and damaged from a seed. The listing
 //! is that of docs/SPECIFICATION.md, 9 and 10.
 
-use crate::calls::{Event, List, Name, View, CALLERS};
+use crate::calls::{Event, List, Name, View, CALLERS, SLOTS};
 use crate::generate::{self, Callers};
 use crate::judge::Judge;
 use crate::random::Random;
@@ -96,7 +96,7 @@ pub fn listing(file: &[u8]) -> String {
 }
 
 fn run(list: &List, mut bytes: &[u8]) -> String {
-    let mut judge = Judge::new(list.capacity, list.overflow);
+    let mut judge = Judge::new(SLOTS, list.capacity, list.overflow);
     let mut out = format!("pool {} overflow {}\n", list.capacity, list.overflow);
     let (mut refused, mut taken, mut copied) = (0, 0, 0);
     for (at, event) in list.events.iter().enumerate() {
@@ -162,8 +162,15 @@ pub fn traces(seed: u64, count: u64) -> Vec<Vec<u8>> {
 /// Lists of the generator, less the takes and releases by numbers that are no callers: these are
 /// refused, and a trace cannot have them.
 fn lists(seed: u64, count: u64, callers: Callers) -> Vec<List> {
-    let options = generate::Options { seed, count, capacity: 40, events: 120, callers, cover: 0 };
-    let mut lists = generate::lists(&options);
+    let mut lists = generate::lists(&generate::Options {
+        slots: SLOTS,
+        seed,
+        count,
+        capacity: 40,
+        events: 120,
+        callers,
+        cover: 0,
+    });
     for list in &mut lists {
         list.events.retain(|event| usize::from(event.caller()) < CALLERS);
     }

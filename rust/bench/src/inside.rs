@@ -70,7 +70,7 @@ pub fn print(turns: usize) {
     for _ in 0..turns {
         times[0].push(rounds::<Rust>(256));
         times[1].push(rounds_inside(256));
-        times[2].push(rounds::<Port>(256));
+        times[2].push(rounds::<Port<8>>(256));
     }
     let [rust, inside, across] = times.map(|times| summary(times).0);
     println!("| the Rust | {rust:.1} | 1 |");

@@ -1,6 +1,6 @@
 //! Times the port across the C interface and inside Rattle beside the Rust: `bench [ROUNDS]`. Prints tables for
-//! docs/BENCHMARKS.md. Each figure is the least of the rounds, with the median in brackets where one
-//! is given; the two sides take turns in every round.
+//! docs/BENCHMARKS.md, of pools of 8 slots and then of 16, beside the Rust widened. Each figure is the least of
+//! the rounds, with the median in brackets where one is given; the two sides take turns in every round.
 
 mod allocations;
 mod inside;
@@ -9,20 +9,27 @@ mod sides;
 mod timing;
 
 use buffer_pool::raw;
-use buffer_sv2::{BufferFromSystemMemory, BufferPool, Slice};
 use mixes::{Mix, KINDS};
-use sides::{Port, Rust, Side};
+use sides::{Port, Rust, Side, Widened};
 use std::mem::size_of;
 use timing::summary;
 
 fn main() {
     let rounds = std::env::args().nth(1).and_then(|word| word.parse().ok()).unwrap_or(15);
-    let mixes = mixes::mixes();
-    print_mixes(&mixes, rounds);
+    print_pools::<Rust, Port<8>>(rounds);
+    print_pools::<Widened, Port<16>>(rounds);
     inside::print(rounds);
-    print_kinds(&mixes, rounds);
-    print_views(rounds);
     print_sizes();
+}
+
+/// The tables of two sides with the same slots.
+fn print_pools<R: Side, P: Side>(rounds: usize) {
+    let slots = R::SLOTS;
+    println!("\npools of {slots} slots\n");
+    let mixes = mixes::mixes(slots);
+    print_mixes::<R, P>(&mixes, rounds);
+    print_kinds::<R, P>(&mixes, rounds);
+    print_views::<R, P>(&[0, 1, slots / 2, slots - 1, slots], rounds);
 }
 
 /// Both sides' times, in turn: the least and the median of each.
@@ -36,12 +43,11 @@ fn in_turn(rounds: usize, rust: impl Fn() -> f64, port: impl Fn() -> f64) -> [(f
 }
 
 /// Each mix as a whole.
-fn print_mixes(mixes: &[Mix], rounds: usize) {
+fn print_mixes<R: Side, P: Side>(mixes: &[Mix], rounds: usize) {
     println!("| mix | calls | reserves in B, F, A | the Rust, ns a call | the port, ns a call | ratio | allocations of the Rust | of the port |");
     println!("|---|---|---|---|---|---|---|---|");
     for mix in mixes {
-        let [rust, port] =
-            in_turn(rounds, || timing::whole::<Rust>(mix), || timing::whole::<Port>(mix));
+        let [rust, port] = in_turn(rounds, || timing::whole::<R>(mix), || timing::whole::<P>(mix));
         let [b, f, a] = mix.modes;
         println!(
             "| {} | {} | {b}, {f}, {a} | {:.1} ({:.1}) | {:.1} ({:.1}) | {:.2} | {} | {} |",
@@ -52,8 +58,8 @@ fn print_mixes(mixes: &[Mix], rounds: usize) {
             port.0,
             port.1,
             port.0 / rust.0,
-            allocated::<Rust>(mix),
-            allocated::<Port>(mix),
+            allocated::<R>(mix),
+            allocated::<P>(mix),
         );
     }
 }
@@ -65,15 +71,15 @@ fn allocated<S: Side>(mix: &Mix) -> u64 {
 }
 
 /// Each mix by kind of call.
-fn print_kinds(mixes: &[Mix], rounds: usize) {
+fn print_kinds<R: Side, P: Side>(mixes: &[Mix], rounds: usize) {
     println!("\n| mix | {} |", KINDS.join(" | "));
     println!("|---|{}", "---|".repeat(KINDS.len()));
     let clock = timing::clock_cost();
     for mix in mixes {
         let (mut rusts, mut ports) = (Vec::new(), Vec::new());
         for _ in 0..rounds {
-            rusts.push(timing::by_kind::<Rust>(mix, clock));
-            ports.push(timing::by_kind::<Port>(mix, clock));
+            rusts.push(timing::by_kind::<R>(mix, clock));
+            ports.push(timing::by_kind::<P>(mix, clock));
         }
         let least = |times: &[[f64; KINDS.len()]], kind: usize| {
             summary(times.iter().map(|times| times[kind]).collect()).0
@@ -88,21 +94,26 @@ fn print_kinds(mixes: &[Mix], rounds: usize) {
 }
 
 /// A look at the frame: for the port, the soundness test and little else.
-fn print_views(rounds: usize) {
+fn print_views<R: Side, P: Side>(held: &[usize], rounds: usize) {
     println!("\n| slices held | the Rust's frame, ns | buffer_pool_frame, ns |");
     println!("|---|---|---|");
-    for held in [0, 1, 4, 7, 8] {
+    for &held in held {
         let [rust, port] =
-            in_turn(rounds, || timing::frame::<Rust>(held), || timing::frame::<Port>(held));
+            in_turn(rounds, || timing::frame::<R>(held), || timing::frame::<P>(held));
         println!("| {held} | {:.1} ({:.1}) | {:.1} ({:.1}) |", rust.0, rust.1, port.0, port.1);
     }
 }
 
 /// What a pool takes beside its memories.
 fn print_sizes() {
-    let rust = size_of::<BufferPool<BufferFromSystemMemory>>();
-    println!("\n| bytes | the Rust | the port |");
-    println!("|---|---|---|");
-    println!("| record | {rust}, and a shared block on the heap | {} |", size_of::<raw::Record>());
-    println!("| slice or handle | {} | {} |", size_of::<Slice>(), size_of::<raw::Handle>());
+    let rust = size_of::<buffer_sv2::BufferPool<buffer_sv2::BufferFromSystemMemory>>();
+    let widened =
+        size_of::<buffer_sv2_widened::BufferPool<buffer_sv2_widened::BufferFromSystemMemory>>();
+    let (record, slice) = (size_of::<raw::Record>(), size_of::<buffer_sv2::Slice>());
+    println!("\n| bytes | the Rust | the Rust widened | the port |");
+    println!("|---|---|---|---|");
+    println!(
+        "| record, beside the Rust's shared block on the heap | {rust} | {widened} | {record} |"
+    );
+    println!("| slice or handle | {slice} | {slice} | {} |", size_of::<raw::Handle>());
 }

@@ -1,16 +1,18 @@
-//! The two sides that are timed, with the same calls.
+//! The sides that are timed, with the same calls.
 
-use buffer_pool::raw::{self, Handle, Record, SLOTS};
-use buffer_sv2::{Buffer, BufferFromSystemMemory, BufferPool, Slice};
+use buffer_pool::raw::{self, Handle, Record, MOST_SLOTS};
 
 /// Where a taken slice is kept until its release: one place a slot.
 pub type Kept = usize;
 
 /// The place of a take that gives no slice.
-pub const NOT_KEPT: Kept = SLOTS;
+pub const NOT_KEPT: Kept = MOST_SLOTS;
 
 /// A pool that is driven. No call that is timed is refused.
 pub trait Side {
+    /// How many slots it has.
+    const SLOTS: usize;
+
     fn new(capacity: usize, overflow: usize) -> Self;
     /// Reserves, and writes the reservation's first byte.
     fn reserve(&mut self, len: usize);
@@ -24,53 +26,70 @@ pub trait Side {
     fn refused(&self) -> bool;
 }
 
-/// The Rust as published.
-pub struct Rust {
-    pool: BufferPool<BufferFromSystemMemory>,
-    kept: [Option<Slice>; SLOTS],
+/// The Rust of a package.
+macro_rules! rust_side {
+    ($(#[$words:meta])* $side:ident, $slots:literal, $rust:ident) => {
+        $(#[$words])*
+        pub struct $side {
+            pool: $rust::BufferPool<$rust::BufferFromSystemMemory>,
+            kept: [Option<$rust::Slice>; $slots],
+        }
+
+        impl Side for $side {
+            const SLOTS: usize = $slots;
+
+            fn new(capacity: usize, _: usize) -> $side {
+                $side { pool: $rust::BufferPool::new(capacity), kept: Default::default() }
+            }
+
+            fn reserve(&mut self, len: usize) {
+                if let Some(first) = $rust::Buffer::reserve(&mut self.pool, len).first_mut() {
+                    *first = 1;
+                }
+            }
+
+            fn commit(&mut self, n: usize) {
+                $rust::Buffer::commit(&mut self.pool, n);
+            }
+
+            fn truncate(&mut self, n: usize) {
+                $rust::Buffer::truncate(&mut self.pool, n);
+            }
+
+            fn take(&mut self, kept: Kept) {
+                let slice = $rust::Buffer::get_data_owned(&mut self.pool);
+                if kept != NOT_KEPT {
+                    self.kept[kept] = Some(slice);
+                }
+            }
+
+            fn release(&mut self, kept: Kept) {
+                self.kept[kept] = None;
+            }
+
+            fn frame(&mut self) -> usize {
+                $rust::Buffer::frame(&self.pool).len()
+            }
+
+            fn refused(&self) -> bool {
+                false
+            }
+        }
+    };
 }
 
-impl Side for Rust {
-    fn new(capacity: usize, _: usize) -> Rust {
-        Rust { pool: BufferPool::new(capacity), kept: Default::default() }
-    }
-
-    fn reserve(&mut self, len: usize) {
-        if let Some(first) = self.pool.reserve(len).first_mut() {
-            *first = 1;
-        }
-    }
-
-    fn commit(&mut self, n: usize) {
-        self.pool.commit(n);
-    }
-
-    fn truncate(&mut self, n: usize) {
-        self.pool.truncate(n);
-    }
-
-    fn take(&mut self, kept: Kept) {
-        let slice = self.pool.get_data_owned();
-        if kept != NOT_KEPT {
-            self.kept[kept] = Some(slice);
-        }
-    }
-
-    fn release(&mut self, kept: Kept) {
-        self.kept[kept] = None;
-    }
-
-    fn frame(&mut self) -> usize {
-        self.pool.frame().len()
-    }
-
-    fn refused(&self) -> bool {
-        false
-    }
+rust_side! {
+    /// The Rust as published.
+    Rust, 8, buffer_sv2
 }
 
-/// The port, across the C interface. Caller 0 takes.
-pub struct Port {
+rust_side! {
+    /// The Rust widened to 16 slots.
+    Widened, 16, buffer_sv2_widened
+}
+
+/// The port with so many slots, across the C interface. Caller 0 takes.
+pub struct Port<const SLOTS: usize> {
     record: Record,
     pool: Box<[u8]>,
     overflow: Box<[u8]>,
@@ -82,18 +101,20 @@ pub struct Port {
 
 // SAFETY, for each call below: record, memories and destination are the pool's own, lie apart, and
 // the lengths are theirs.
-impl Side for Port {
-    fn new(capacity: usize, overflow: usize) -> Port {
+impl<const SLOTS: usize> Side for Port<SLOTS> {
+    const SLOTS: usize = SLOTS;
+
+    fn new(capacity: usize, overflow: usize) -> Port<SLOTS> {
         let memory = |len: usize| vec![0; len].into_boxed_slice();
         let (mut pool, lent) = (memory(capacity), memory(overflow));
-        let created =
-            unsafe { raw::buffer_pool_new(pool.as_mut_ptr(), capacity, lent.as_ptr(), overflow) };
+        let (bytes, other) = (pool.as_mut_ptr(), lent.as_ptr());
+        let created = unsafe { raw::buffer_pool_new(SLOTS, bytes, capacity, other, overflow) };
         Port {
             record: created.record,
             pool,
             overflow: lent,
             destination: memory(overflow),
-            kept: Default::default(),
+            kept: [Handle::default(); SLOTS],
             refusals: created.refusal,
         }
     }

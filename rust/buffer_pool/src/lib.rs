@@ -1,11 +1,11 @@
 //! The proved frame pool, with types that make its misuse hard.
 //!
 //! Frames of bytes are gathered in one lent memory, handed out as slices, and released in any
-//! order; a second lent memory, the overflow, takes what does not fit. Four callers, 0 to 3, can share
-//! a pool, and each has serials of its own for what it takes. The pool's code is proved to meet its
-//! contracts (docs/PROVED.md of the repository) and is linked as an archive. What this crate adds to a
-//! call is the step from places to slices of bytes and, where a [`Slice`] comes back, the comparison of
-//! one address.
+//! order; a second lent memory, the overflow, takes what does not fit. A pool has 8 or 16 slots, one for
+//! each slice that is held. Four callers, 0 to 3, can share a pool, and each has serials of its own for
+//! what it takes. The pool's code is proved to meet its contracts (docs/PROVED.md of the repository) and
+//! is linked as an archive. What this crate adds to a call is the step from places to slices of bytes
+//! and, where a [`Slice`] comes back, the comparison of one address.
 //!
 //! What the types rule out:
 //!
@@ -27,7 +27,7 @@
 //!
 //! # fn main() -> Result<(), buffer_pool::Refusal> {
 //! let (mut memory, mut overflow) = ([0; 64], [0; 32]);
-//! let mut log = Pool::new(&mut memory, &mut overflow)?;
+//! let mut log = Pool::new(8, &mut memory, &mut overflow)?;
 //!
 //! let entry = b"page 7";
 //! log.reserve(entry.len())?.bytes.copy_from_slice(entry);
@@ -50,11 +50,11 @@
 //! use buffer_pool::{Pool, Taken};
 //!
 //! let (mut memory, mut overflow) = ([0; 64], [0; 32]);
-//! let mut first = Pool::new(&mut memory, &mut overflow).unwrap();
+//! let mut first = Pool::new(8, &mut memory, &mut overflow).unwrap();
 //! first.reserve(1).unwrap();
 //! first.commit(1).unwrap();
 //! let taken = first.take(0, &mut []).unwrap();
-//! let mut second = Pool::new(&mut memory, &mut overflow).unwrap();
+//! let mut second = Pool::new(8, &mut memory, &mut overflow).unwrap();
 //! if let Taken::Slice(slice) = taken {
 //!     let _ = second.release(slice);
 //! }
@@ -136,13 +136,19 @@ impl Slice<'_> {
 }
 
 impl<'m> Pool<'m> {
-    /// A new pool of these memories. The first is filled with zeros.
+    /// A new pool of these memories, with 8 or 16 slots. The first memory is filled with zeros.
     ///
-    /// Refuses with [`Refusal::MemoryTooLong`].
-    pub fn new(memory: &'m mut [u8], overflow: &'m mut [u8]) -> Result<Pool<'m>, Refusal> {
+    /// Refuses with [`Refusal::WrongSlotCount`] and [`Refusal::MemoryTooLong`]; then both memories keep
+    /// their bytes.
+    pub fn new(
+        slots: usize,
+        memory: &'m mut [u8],
+        overflow: &'m mut [u8],
+    ) -> Result<Pool<'m>, Refusal> {
         // SAFETY: both pointers and lengths are those of slices that are borrowed here.
         let created = unsafe {
             raw::buffer_pool_new(
+                slots,
                 memory.as_mut_ptr(),
                 memory.len(),
                 overflow.as_ptr(),

@@ -17,8 +17,8 @@ pub const OVERFLOW: u32 = 2;
 pub const POOL_MEMORY: u64 = 0;
 pub const OVERFLOW_MEMORY: u64 = 1;
 
-/// How many slices can live in a pool.
-pub const SLOTS: usize = 8;
+/// The most slots that a pool may have. A record has room for so many.
+pub const MOST_SLOTS: usize = 16;
 
 /// How many callers can take: 0 to 3.
 pub const CALLERS: usize = 4;
@@ -26,23 +26,25 @@ pub const CALLERS: usize = 4;
 /// The most bytes that either memory may have.
 pub const BYTE_LIMIT: usize = 1_048_576;
 
-/// The pool's record.
+/// The pool's record. One of zeros alone is none: it has no slot count.
 #[repr(C)]
 #[derive(Clone, Copy, Debug, Default, PartialEq, Eq)]
 pub struct Record {
     /// Lengths of the pool memory and of the overflow.
     pub capacity: u64,
     pub overflow: u64,
-    /// The slice that was last taken in each slot.
-    pub starts: [u32; SLOTS],
-    pub lengths: [u32; SLOTS],
-    pub serials: [u32; SLOTS],
+    /// How many slots the pool has, 8 or 16. Any other number is refused with 1.
+    pub slots: usize,
+    /// The slice that was last taken in each slot. Entries above the slot count are never read.
+    pub starts: [u32; MOST_SLOTS],
+    pub lengths: [u32; MOST_SLOTS],
+    pub serials: [u32; MOST_SLOTS],
     /// Serials given to each caller.
     pub given: [u32; CALLERS],
     /// The caller of the slice that was last taken in each slot.
-    pub callers: [u8; SLOTS],
-    /// Slot `p`, of 1 to 8, is live if the bit 0x80 shifted right by `p - 1` is set. Any other bit is
-    /// refused with 1.
+    pub callers: [u8; MOST_SLOTS],
+    /// Slot `p`, of 1 to `slots`, is live if the bit `1 << (slots - p)` is set: slot 1 has the highest of
+    /// as many bits as there are slots. Any other bit is refused with 1.
     pub live: u32,
     pub mode: u32,
     /// The back: the slots before it, and its own.
@@ -81,6 +83,7 @@ pub struct Handle {
     pub length: u32,
     /// 1, 2, 3, .. over the takes of its caller that gave a slice.
     pub serial: u32,
+    /// 1 to the pool's slot count.
     pub slot: u16,
     pub caller: u16,
 }
@@ -121,6 +124,7 @@ pub struct Created {
 
 extern "C" {
     pub fn buffer_pool_new(
+        slots: usize,
         pool: *mut u8,
         pool_len: usize,
         overflow: *const u8,
@@ -225,14 +229,14 @@ macro_rules! layout {
     };
 }
 
-layout!(Record, 232:
-    0 capacity, 8 overflow, 16 starts, 48 lengths, 80 serials, 112 given, 128 callers, 136 live,
-    140 mode, 144 back_start, 152 back_len, 160 used, 168 raw_offset, 176 raw_len,
-    184 front_back_start, 192 front_byte_capacity, 200 front_len, 208 kept, 216 cursor,
-    224 reserved);
+layout!(Record, 344:
+    0 capacity, 8 overflow, 16 slots, 24 starts, 88 lengths, 152 serials, 216 given, 232 callers,
+    248 live, 252 mode, 256 back_start, 264 back_len, 272 used, 280 raw_offset, 288 raw_len,
+    296 front_back_start, 304 front_byte_capacity, 312 front_len, 320 kept, 328 cursor,
+    336 reserved);
 layout!(Place, 24: 0 start, 8 length, 16 memory);
 layout!(Handle, 16: 0 start, 4 length, 8 serial, 12 slot, 14 caller);
 layout!(Reserved, 40: 0 place, 24 changes, 32 refusal);
 layout!(Placed, 32: 0 place, 24 refusal);
 layout!(Taken, 32: 0 handle, 16 copied, 24 refusal);
-layout!(Created, 240: 0 record, 232 refusal);
+layout!(Created, 352: 0 record, 344 refusal);

@@ -27,6 +27,8 @@ pub enum Refusal {
     NoSerials = 8,
     /// Take: the caller is above 3. This comes before 6 and 8, and for an empty frame too.
     UnknownCaller = 12,
+    /// New: the slot count is neither 8 nor 16. This comes before 3.
+    WrongSlotCount = 16,
 }
 
 impl Refusal {
@@ -47,6 +49,7 @@ impl Refusal {
             7 => Refusal::NotLive,
             8 => Refusal::NoSerials,
             12 => Refusal::UnknownCaller,
+            16 => Refusal::WrongSlotCount,
             _ => return None,
         })
     }
@@ -75,6 +78,7 @@ impl fmt::Display for Refusal {
             Refusal::NotLive => "the handle names no live slice of this pool",
             Refusal::NoSerials => "all serials of the caller were given",
             Refusal::UnknownCaller => "the caller is above 3",
+            Refusal::WrongSlotCount => "the slot count is neither 8 nor 16",
         };
         write!(f, "refusal {}: {cause}", self.number())
     }

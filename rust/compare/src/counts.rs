@@ -10,7 +10,8 @@ pub const KINDS: [&str; 8] =
 /// Numbers of refusal up to 12, with 0 for a call that was done.
 const REFUSALS: usize = 13;
 
-/// Calls by kind and refusal, writes, lists, and the classes that were reached.
+/// Calls by kind and refusal on pools with so many slots, writes, lists, and the classes that were
+/// reached.
 pub struct Counts {
     pub calls: [[u64; REFUSALS]; KINDS.len()],
     pub writes: u64,
@@ -21,13 +22,13 @@ pub struct Counts {
 }
 
 impl Counts {
-    pub fn new() -> Counts {
+    pub fn new(slots: usize) -> Counts {
         Counts {
             calls: [[0; REFUSALS]; KINDS.len()],
             writes: 0,
             views: 0,
             lists: 0,
-            tally: Tally::new(),
+            tally: Tally::new(slots),
         }
     }
 

@@ -9,19 +9,23 @@ use crate::memory::Memory;
 use crate::model::{self, Call};
 use crate::port::Port;
 use crate::shrink::Disagreement;
+use crate::sound::{bit, is_count};
 use crate::state::State;
-use buffer_pool::raw::{Created, Handle, Record, BYTE_LIMIT, CALLERS, SLOTS};
+use buffer_pool::raw::{self, Handle, Record, BYTE_LIMIT, CALLERS, MOST_SLOTS};
 use oracle::random::Random;
 
-/// The fields of a record, as `set` numbers them: 15 of their own, then what each slot has, then the
-/// serials given to each caller.
-const OWN: usize = 15;
-const GIVEN: usize = OWN + 4 * SLOTS;
+/// The fields of a record, as `set` numbers them: 16 of their own, then what each slot has, also those
+/// above the slot count, then the serials given to each caller.
+const OWN: usize = 16;
+const GIVEN: usize = OWN + 4 * MOST_SLOTS;
 const FIELDS: usize = GIVEN + CALLERS;
 
-/// The fields of 32 bits of which one byte is used: a number above it is refused with 1.
+/// The fields of 32 bits of which few are used: a bit above them is refused with 1.
 const LIVE: usize = 2;
 const MODE: usize = 3;
+
+/// The slot count.
+const SLOT_COUNT: usize = 15;
 
 /// The longest memory that is lent to fit a damaged length.
 const LENT: u64 = 4096;
@@ -44,10 +48,11 @@ fn set(r: &mut Record, field: usize, value: u64) {
         12 => r.kept = value,
         13 => r.cursor = value,
         14 => r.reserved = value,
+        SLOT_COUNT => r.slots = value as usize,
         GIVEN.. => r.given[field - GIVEN] = value as u32,
         _ => {
-            let at = (field - OWN) % SLOTS;
-            match (field - OWN) / SLOTS {
+            let at = (field - OWN) % MOST_SLOTS;
+            match (field - OWN) / MOST_SLOTS {
                 0 => r.starts[at] = value as u32,
                 1 => r.lengths[at] = value as u32,
                 2 => r.serials[at] = value as u32,
@@ -75,10 +80,11 @@ fn get(r: &Record, field: usize) -> u64 {
         12 => r.kept,
         13 => r.cursor,
         14 => r.reserved,
+        SLOT_COUNT => r.slots as u64,
         GIVEN.. => r.given[field - GIVEN].into(),
         _ => {
-            let at = (field - OWN) % SLOTS;
-            match (field - OWN) / SLOTS {
+            let at = (field - OWN) % MOST_SLOTS;
+            match (field - OWN) / MOST_SLOTS {
                 0 => r.starts[at].into(),
                 1 => r.lengths[at].into(),
                 2 => r.serials[at].into(),
@@ -92,13 +98,14 @@ fn get(r: &Record, field: usize) -> u64 {
 fn edges(r: &Record, value: u64) -> Vec<u64> {
     let limit = BYTE_LIMIT as u64;
     let near = |n: u64| [n.wrapping_sub(1), n, n.wrapping_add(1)];
-    let (slots, callers) = (SLOTS as u64, CALLERS as u64);
-    let mut edges: Vec<u64> = [value, r.capacity, r.overflow, r.kept, limit, slots, callers]
-        .into_iter()
-        .flat_map(near)
-        .collect();
-    edges.extend([0, 1, 2, 0x7f, 0x80, 0xff, 0x100, 0xffff, u64::from(u32::MAX)]);
-    edges.extend([1 << 31, 1 << 32, (1 << 32) + 1, 1 << 63, u64::MAX - 1, u64::MAX]);
+    let mut edges: Vec<u64> =
+        [value, r.capacity, r.overflow, r.kept, limit, 8, MOST_SLOTS as u64, CALLERS as u64]
+            .into_iter()
+            .flat_map(near)
+            .collect();
+    edges.extend([0, 1, 2, 0x7f, 0x80, 0xff, 0x100, 0x7fff, 0x8000, 0xffff, 0x1_0000]);
+    edges.extend([1 << 31, u64::from(u32::MAX), 1 << 32, (1 << 32) + 1, (1 << 32) + 8]);
+    edges.extend([1 << 63, u64::MAX - 1, u64::MAX]);
     edges
 }
 
@@ -141,16 +148,17 @@ fn caller(random: &mut Random) -> u64 {
     random.weighed(&[(4, near), (2, wide), (1, u64::MAX)])
 }
 
-/// The handle of a slot, and mostly one number of it changed.
+/// The handle of a slot, seldom of one above the slot count, and mostly one number of it changed.
 fn handle(r: &Record, random: &mut Random) -> Handle {
-    let at = random.below(SLOTS as u64) as usize;
+    let slots = if random.chance(90) { r.slots.clamp(1, MOST_SLOTS) } else { MOST_SLOTS };
+    let at = random.below(slots as u64) as usize;
     let (start, length, serial) = (r.starts[at], r.lengths[at], r.serials[at]);
     let (slot, caller) = (at as u16 + 1, u16::from(r.callers[at]));
     let h = Handle { start, length, serial, slot, caller };
     let other = |n: u32, random: &mut Random| {
         random.pick(&[n.wrapping_add(1), n.wrapping_sub(1), n ^ 1 << 31, 0, u32::MAX])
     };
-    let near = random.pick(&[0, 1, 8, 9, 255, 256, slot + 1, slot ^ 0x10]);
+    let near = random.pick(&[0, 1, 8, 9, 16, 17, 255, 256, slot + 1, slot ^ 8, slot ^ 0x10]);
     let wide = |n: u16, random: &mut Random| {
         random.pick(&[n | 0x100, n << 8, n | 1 << 12, n | 1 << 15, !0])
     };
@@ -167,20 +175,39 @@ fn handle(r: &Record, random: &mut Random) -> Handle {
     }
 }
 
+/// What a call gave and left, with its destination.
+#[derive(PartialEq)]
+struct Done {
+    given: Given,
+    after: State,
+    destination: Memory,
+}
+
+/// What a call finds as its destination.
+fn lent(call: &Call) -> Memory {
+    let len = if let Call::Take { destination, .. } = call { *destination } else { 0 };
+    Memory::marked(len, 0xd0)
+}
+
+/// Does a call on a copy of the state.
+fn done(state: &State, call: &Call) -> Done {
+    let (mut after, mut destination) = (state.clone(), lent(call));
+    let given = model::call(&mut after, call, &mut destination);
+    Done { given, after, destination }
+}
+
 /// Does a call on a copy of the state and compares what comes out with what is due.
 fn check(state: &State, call: &Call, counts: &mut Counts) -> Result<(), Disagreement> {
-    let len = if let Call::Take { destination, .. } = call { *destination } else { 0 };
-    let lent = Memory::marked(len, 0xd0);
-    let (mut after, mut destination) = (state.clone(), lent.clone());
-    let got = model::call(&mut after, call, &mut destination);
+    let done = done(state, call);
+    let Done { given, after, destination } = &done;
     let due = model::refusal(state, call);
-    let verdict = match (call, &got) {
+    let verdict = match (call, given) {
         (Call::Reserve(len), Given::Reserved(given)) if due == 0 => {
-            let kept = given.refusal == 0 || after == *state;
+            let kept = given.refusal == 0 || after == state;
             let kept = if kept { Ok(()) } else { Err("a refused reserve changes something") };
-            kept.and_then(|()| model::reserve(state, *len, &after, given))
+            kept.and_then(|()| model::reserve(state, *len, after, given))
         }
-        _ => as_due(state, call, due, (&got, &after), (&lent, &destination)),
+        _ => as_due(state, call, due, &done),
     };
     let beside = after.intact() && destination.intact();
     let verdict = verdict.and(if beside { Ok(()) } else { Err("a byte beside a memory changes") });
@@ -188,34 +215,28 @@ fn check(state: &State, call: &Call, counts: &mut Counts) -> Result<(), Disagree
     verdict.map_err(|cause| {
         Disagreement::OnDamaged(format!(
             "damaged input: {cause}\n  lent: {pool} and {overflow} bytes\n  {call:?}\n  \
-             {:?}\n  refusal due: {due}\n  {got:?}\n  {:?}",
+             {:?}\n  refusal due: {due}\n  {given:?}\n  {:?}",
             state.record, after.record
         ))
     })?;
-    counts.call(call.kind(), got.refusal());
+    counts.call(call.kind(), given.refusal());
     Ok(())
 }
 
 /// Whether a call that is no accepted reserve gave and left exactly what is due.
-fn as_due(
-    state: &State,
-    call: &Call,
-    due: u8,
-    (got, after): (&Given, &State),
-    (lent, destination): (&Memory, &Memory),
-) -> Result<(), &'static str> {
-    let (mut expected, mut filled) = (state.clone(), lent.clone());
+fn as_due(state: &State, call: &Call, due: u8, done: &Done) -> Result<(), &'static str> {
+    let (mut expected, mut filled) = (state.clone(), lent(call));
     let given = match due {
         0 => model::perform(&mut expected, call, &mut filled),
         refusal => call.refused(refusal),
     };
-    if *got != given {
+    if done.given != given {
         return Err("a byte of the answer");
     }
-    if *destination != filled {
+    if done.destination != filled {
         return Err("a byte of the destination");
     }
-    if *after != expected {
+    if done.after != expected {
         return Err("a byte of what it leaves");
     }
     Ok(())
@@ -267,17 +288,65 @@ pub fn reached(
             check(&damaged, &call, counts)?;
         }
     }
+    unread(state, random, counts)
+}
+
+/// Entries above the slot count do not matter: with others in their place every call gives and leaves the
+/// same. They stay, but that a reset which clears the starts and lengths clears these too.
+fn unread(state: &State, random: &mut Random, counts: &mut Counts) -> Result<(), Disagreement> {
+    let slots = state.record.slots;
+    if slots == MOST_SLOTS {
+        return Ok(());
+    }
+    let mut other = state.clone();
+    above(slots).for_each(|field| set(&mut other.record, field, random.within(1, 255)));
+    for call in calls(&other.record, random) {
+        let (plain, mut marked) = (done(state, &call), done(&other, &call));
+        let clears = clears_entries(&other.record, &call, &marked);
+        let kept = above(slots).all(|field| {
+            let place = field < OWN + 2 * MOST_SLOTS;
+            let due = if place && clears { 0 } else { get(&other.record, field) };
+            get(&marked.after.record, field) == due
+        });
+        for field in above(slots) {
+            set(&mut marked.after.record, field, get(&plain.after.record, field));
+        }
+        if !kept || plain != marked {
+            return Err(Disagreement::OnDamaged(format!(
+                "an entry above the slot count matters or changes\n  {call:?}\n  {:?}\n  {:?}\n  {:?}",
+                other.record, plain.given, marked.given
+            )));
+        }
+        counts.call(call.kind(), plain.given.refusal());
+    }
     Ok(())
 }
 
-/// Every field of some states set to each edge, live word and mode also to others, with each kind of
-/// call.
-pub fn every_field(random: &mut Random, counts: &mut Counts) -> Result<(), Disagreement> {
-    for state in ready_states()? {
+/// The fields that slots above the slot count have.
+fn above(slots: usize) -> impl Iterator<Item = usize> {
+    (OWN..GIVEN).filter(move |field| (field - OWN) % MOST_SLOTS >= slots)
+}
+
+/// Whether the call is a reserve that resets out of the overflow with an empty frame: it writes 0 to all starts and
+/// lengths, also above the slot count (SPECIFICATION 5.3).
+fn clears_entries(before: &Record, call: &Call, done: &Done) -> bool {
+    let resets = before.mode == raw::OVERFLOW && before.live == 0 && before.cursor == 0;
+    matches!(call, Call::Reserve(_)) && done.given.refusal() == 0 && resets && before.capacity != 0
+}
+
+/// Every field of some states with so many slots set to each edge, live word and mode also to others,
+/// with each kind of call.
+pub fn every_field(
+    slots: usize,
+    random: &mut Random,
+    counts: &mut Counts,
+) -> Result<(), Disagreement> {
+    for state in ready_states(slots)? {
+        unread(&state, random, counts)?;
         for field in 0..FIELDS {
             let mut values = edges(&state.record, get(&state.record, field));
             if field == LIVE || field == MODE {
-                values.extend(bytes_beside(get(&state.record, field)));
+                values.extend(with_bytes(get(&state.record, field)));
             }
             for value in values {
                 let mut damaged = state.clone();
@@ -295,39 +364,45 @@ pub fn every_field(random: &mut Random, counts: &mut Counts) -> Result<(), Disag
     Ok(())
 }
 
-/// Every number of one byte, and the number with every other value in each of the three bytes above.
-fn bytes_beside(number: u64) -> impl Iterator<Item = u64> {
-    let above = move |shift: u32| (1..256).map(move |high| high << shift | number);
-    (0..256).chain([8, 16, 24].into_iter().flat_map(above))
+/// A number of 32 bits with every value in each of its bytes.
+fn with_bytes(number: u64) -> impl Iterator<Item = u64> {
+    let with =
+        move |shift: u32| (0..256).map(move |byte| number & !(0xff << shift) | byte << shift);
+    [0, 8, 16, 24].into_iter().flat_map(with)
 }
 
-/// The pools made ready for the exhaustive lists.
-fn ready_states() -> Result<Vec<State>, Disagreement> {
+/// The pools of so many slots made ready for the exhaustive lists.
+fn ready_states(slots: usize) -> Result<Vec<State>, Disagreement> {
     let state = |list: oracle::calls::List| {
-        let mut port = Port::new(list.capacity, list.overflow)?;
+        let mut port = Port::new(slots, list.capacity, list.overflow)?;
         for event in &list.events {
             port.apply(event)?;
         }
         Ok(port.state)
     };
-    let states: Result<_, String> = exhaustive::ready_lists().map(state).collect();
+    let states: Result<_, String> = exhaustive::ready_lists(slots).into_iter().map(state).collect();
     states.map_err(Disagreement::OnDamaged)
 }
 
-/// Records made by hand, most of them passing, with entries of freed slots that no call leaves; some
-/// with one field damaged, and some of nothing but random bits.
+/// Records of so many slots made by hand, most of them passing, with entries of freed slots that no call
+/// leaves; some with one field damaged, and some of nothing but random bits, but for the slot count of
+/// half of these.
 pub fn by_hand(
+    slots: usize,
     calls_due: u64,
     random: &mut Random,
     counts: &mut Counts,
 ) -> Result<(), Disagreement> {
     let until = counts.total() + calls_due;
     while counts.total() < until {
-        let mut record = made(random);
+        let mut record = made(slots, random);
         let field = random.below(FIELDS as u64) as usize;
         match random.below(10) {
-            0 => (0..FIELDS).for_each(|field| set(&mut record, field, random.below(u64::MAX))),
-            1 => (0..FIELDS).for_each(|field| set(&mut record, field, random.below(9))),
+            kind @ (0 | 1) => {
+                let limit = if kind == 0 { u64::MAX } else { slots as u64 + 1 };
+                (0..FIELDS).for_each(|field| set(&mut record, field, random.below(limit)));
+                record.slots = random.pick(&[record.slots, slots]);
+            }
             2 | 3 => {
                 let value = value(&record, field, random);
                 set(&mut record, field, value);
@@ -344,14 +419,15 @@ pub fn by_hand(
     Ok(())
 }
 
-/// A record whose live slices rise, with its other numbers mostly as the mode asks.
-fn made(random: &mut Random) -> Record {
-    let mut r = Record { mode: random.below(3) as u32, ..Record::default() };
-    (r.capacity, r.overflow) = (random.within(1, 24), random.below(24));
-    r.back_start = random.below(SLOTS as u64) as usize;
-    r.back_len = random.below((SLOTS - r.back_start) as u64 + 1) as usize;
+/// A record whose live slices rise, with its other numbers mostly as the mode asks. Entries above the slot
+/// count are any.
+fn made(slots: usize, random: &mut Random) -> Record {
+    let mut r = Record { slots, mode: random.below(3) as u32, ..Record::default() };
+    (r.capacity, r.overflow) = (random.within(1, 3 * slots as u64), random.below(24));
+    r.back_start = random.below(slots as u64) as usize;
+    r.back_len = random.below((slots - r.back_start) as u64 + 1) as usize;
     r.given = [(); CALLERS].map(|()| random.weighed(&[(4, 100), (1, u32::MAX)]));
-    for at in 0..SLOTS {
+    for at in 0..MOST_SLOTS {
         r.starts[at] = random.below(30) as u32;
         r.lengths[at] = random.below(5) as u32;
         r.serials[at] = random.below(100) as u32;
@@ -380,7 +456,7 @@ fn fill_slots(
         let gap = random.below(2);
         if at + gap + length <= end && random.chance(60) {
             (r.starts[p - 1], r.lengths[p - 1]) = ((at + gap) as u32, length as u32);
-            r.live |= 0x80 >> (p - 1);
+            r.live |= bit(r, p);
             at += gap + length;
         }
     }
@@ -399,53 +475,57 @@ fn open_frame(r: &mut Record, start: u64, end: u64, slot_left: bool, random: &mu
 fn made_back(r: &mut Record, random: &mut Random) {
     r.used = r.back_start + r.back_len;
     let end = fill_slots(r, (1, r.used), (0, r.capacity), random);
-    open_frame(r, end, r.capacity, r.used < SLOTS, random);
+    open_frame(r, end, r.capacity, r.used < r.slots, random);
 }
 
 fn made_front(r: &mut Record, random: &mut Random) {
-    r.back_start = random.within(1, SLOTS as u64 - 1) as usize;
-    r.back_len = SLOTS - r.back_start;
+    r.back_start = random.within(1, r.slots as u64 - 1) as usize;
+    r.back_len = r.slots - r.back_start;
     r.front_back_start = random.within(1, r.back_start as u64) as usize;
     r.front_byte_capacity = random.below(r.capacity + 1);
     r.front_len = random.below(r.front_back_start as u64 + 1) as usize;
     r.used = r.front_len;
     let (slots, bytes) = (r.front_back_start, r.front_byte_capacity);
     let end = fill_slots(r, (1, r.front_len), (0, bytes), random);
-    fill_slots(r, (slots + 1, SLOTS), (bytes, r.capacity), random);
+    fill_slots(r, (slots + 1, r.slots), (bytes, r.capacity), random);
     open_frame(r, end, bytes, r.front_len < slots, random);
 }
 
 fn made_overflow(r: &mut Record, random: &mut Random) {
-    r.used = random.below(10) as usize;
+    r.used = random.below(r.slots as u64 + 2) as usize;
     fill_slots(r, (1, r.back_start + r.back_len), (0, r.capacity), random);
     r.cursor = random.below(r.kept + 1);
     r.reserved = random.below(r.kept - r.cursor + 1);
 }
 
-/// New with memories around the byte limit and of small lengths: 3 and the zero record, or a new
-/// record, a pool memory of zeros and the overflow's bytes as they were. Gives the count of calls.
+/// New with every slot count up to 64 and some above, with memories of few lengths, and with 8 and 16 of
+/// many around the byte limit: what it gives, and memories as they were or, if it is not refused, a pool
+/// memory of zeros. Gives the count of calls.
 pub fn new_pools() -> Result<u64, Disagreement> {
     let limit = BYTE_LIMIT;
     let lengths = [0, 1, 2, 7, 8, limit - 1, limit, limit + 1, limit + 2, 2 * limit];
+    let counts = (0..=64).chain([255, 256, 264, 1 << 16, 1 << 32 | 8, 1 << 63 | 16, usize::MAX]);
     let mut calls = 0;
-    for capacity in lengths {
-        for overflow in lengths {
-            let (pool, other) = (Memory::marked(capacity, 1), Memory::marked(overflow, 0x81));
-            let (state, created) = State::new(pool.clone(), other.clone());
-            let (due, left) = match capacity.max(overflow) > limit {
-                true => (Created { refusal: 3, ..Created::default() }, pool),
-                false => (
-                    Created { record: model::new_record(capacity, overflow), refusal: 0 },
-                    Memory::new(&vec![0; capacity]),
-                ),
-            };
-            let given = created.as_bytes() == due.as_bytes();
-            if !given || state.pool != left || state.overflow != other {
-                let cause = format!("new with {capacity} and {overflow} bytes gives {created:?}");
-                return Err(Disagreement::OnDamaged(cause));
+    for slots in counts {
+        let lengths = if is_count(slots) { &lengths[..] } else { &[0, 8, limit + 1] };
+        for &capacity in lengths {
+            for &overflow in lengths {
+                new_pool(slots, capacity, overflow)?;
+                calls += 1;
             }
-            calls += 1;
         }
     }
     Ok(calls)
+}
+
+fn new_pool(slots: usize, capacity: usize, overflow: usize) -> Result<(), Disagreement> {
+    let (pool, other) = (Memory::marked(capacity, 1), Memory::marked(overflow, 0x81));
+    let (state, created) = State::new(slots, pool.clone(), other.clone());
+    let due = model::created(slots, capacity, overflow);
+    let left = if due.refusal == 0 { Memory::new(&vec![0; capacity]) } else { pool };
+    if created.as_bytes() == due.as_bytes() && state.pool == left && state.overflow == other {
+        return Ok(());
+    }
+    let asked = format!("{slots} slots, {capacity} and {overflow} bytes");
+    Err(Disagreement::OnDamaged(format!("new with {asked} gives {created:?}\n  due: {due:?}")))
 }

@@ -9,33 +9,10 @@ use crate::shrink::Disagreement;
 use oracle::calls::{Event, List, Name, View, CALLERS};
 use oracle::record::Mode;
 use oracle::text;
+use std::ops::RangeInclusive;
 
 /// The longest memories of the small sizes.
 const SMALL: u32 = 6;
-
-/// Pools made ready. `OCTET` stands for the eight slices of 2 bytes of SPECIFICATION 11, `EIGHT` and
-/// `SEVEN` for so many slices of 1 byte. Callers 0 and 1 take them by turns: slots 1 and 2 have serial
-/// 1, slots 3 and 4 have 2, and so on.
-const READY: &[&str] = &[
-    // All slots used; one left.
-    "pool 17 overflow 20; OCTET",
-    "pool 8 overflow 3; EIGHT",
-    "pool 9 overflow 4; EIGHT",
-    "pool 9 overflow 4; SEVEN",
-    // The front: empty, with a frame, with a slice of its own, with all of its slots used.
-    "pool 17 overflow 6; OCTET; d 1; d 1 by 1; d 2; r 1",
-    "pool 17 overflow 6; OCTET; d 1; d 1 by 1; d 2; r 2; c 2",
-    "pool 17 overflow 6; OCTET; d 1; d 1 by 1; d 2; r 2; c 2; t; r 1; c 1",
-    "pool 10 overflow 4; EIGHT; d 1; d 1 by 1; r 1; c 1; t; r 1; c 1; t by 1",
-    // The overflow: an empty frame, a frame, bytes kept after a take.
-    "pool 9 overflow 5; EIGHT; r 1",
-    "pool 9 overflow 5; EIGHT; r 3; c 2",
-    "pool 9 overflow 5; EIGHT; r 4; c 2; t",
-    "pool 4 overflow 6; r 3; c 3; t; r 2; c 2",
-    // The back after front slices: the tail was cleared, and no slot of the back is left.
-    "pool 17 overflow 6; OCTET; d 1; d 1 by 1; r 3; c 3; t; d 2; d 2 by 1; d 3; d 3 by 1; d 4; \
-     d 4 by 1; r 2",
-];
 
 /// The events of one slice of `len` bytes, `count` times, by callers 0 and 1 in turn.
 fn slices(len: u32, count: usize) -> String {
@@ -43,36 +20,81 @@ fn slices(len: u32, count: usize) -> String {
     (0..count).map(slice).collect::<Vec<_>>().join("; ")
 }
 
-/// A pool made ready.
-fn ready(said: &str) -> List {
-    let said = said.replace("OCTET", &slices(2, 8));
-    let said = said.replace("EIGHT", &slices(1, 8)).replace("SEVEN", &slices(1, 7));
-    text::parse(&said).expect("a good text").remove(0)
+/// The releases of the slices that were taken first, second and so on, by callers 0 and 1 in turn: the
+/// first two have serial 1, the next two have 2.
+fn releases(taken: RangeInclusive<usize>) -> String {
+    let release = |nth: usize| format!("d {} by {}", nth.div_ceil(2), (nth - 1) % 2);
+    taken.map(release).collect::<Vec<_>>().join("; ")
 }
 
-/// The lists that make the pools ready.
-pub fn ready_lists() -> impl Iterator<Item = List> {
-    READY.iter().map(|said| ready(said))
+/// The lists that make pools of so many slots ready.
+pub fn ready_lists(slots: usize) -> Vec<List> {
+    let ready = |capacity: usize, overflow: usize, events: &[&str]| {
+        let events = events.join("; ");
+        let said = format!("pool {capacity} overflow {overflow}; {events}");
+        text::parse(&said).expect("a good text").remove(0)
+    };
+    // A slice of 1 byte, or of 2, in each slot; and a pool that has one byte more than all of 2.
+    let (ones, twos) = (&*slices(1, slots), &*slices(2, slots));
+    let roomy = 2 * slots + 1;
+    // Some of the slices released: the first, or all after the third or fourth.
+    let (two_gone, three_gone) = (&*releases(1..=2), &*releases(1..=3));
+    let (three_kept, four_kept) = (&*releases(4..=slots), &*releases(5..=slots));
+    // A front that uses more than half of the slots, and all but the first of its slices released.
+    let half = slots / 2;
+    let many_gone = &*releases(1..=half + 2);
+    let (many, many_freed) = (&*slices(1, half + 1), &*releases(slots + 2..=slots + half + 1));
+    let second_freed = &*releases(slots + 2..=slots + 2);
+    vec![
+        // All slots used; one left.
+        ready(roomy, 20, &[twos]),
+        ready(slots, 3, &[ones]),
+        ready(slots + 1, 4, &[ones]),
+        ready(slots + 1, 4, &[&slices(1, slots - 1)]),
+        // The front: empty, with a frame, with a slice of its own, with all of its slots used.
+        ready(roomy, 6, &[twos, three_gone, "r 1"]),
+        ready(roomy, 6, &[twos, three_gone, "r 2; c 2"]),
+        ready(roomy, 6, &[twos, three_gone, "r 2; c 2; t; r 1; c 1"]),
+        ready(slots + 2, 4, &[ones, two_gone, &slices(1, 2)]),
+        // The front with a frame after its slices, and one slice left in the back.
+        ready(roomy, roomy + 4, &[twos, two_gone, "r 3; c 3; t; r 1; c 1", three_kept]),
+        ready(roomy, 8, &[twos, three_gone, &slices(1, 2), "r 1; c 1", second_freed, four_kept]),
+        // The front with many slices freed.
+        ready(roomy, roomy, &[twos, many_gone, many, many_freed]),
+        // The overflow: an empty frame, a frame, bytes kept after a take.
+        ready(slots + 1, 5, &[ones, "r 1"]),
+        ready(slots + 1, 5, &[ones, "r 3; c 2"]),
+        ready(slots + 1, 5, &[ones, "r 4; c 2; t"]),
+        ready(4, 6, &["r 3; c 3; t; r 2; c 2"]),
+        // The back after front slices: the tail was cleared, and no slot of the back is left.
+        ready(roomy, roomy, &[twos, two_gone, "r 3; c 3; t", &releases(3..=slots), "r 2"]),
+    ]
 }
 
 /// All lists of at most `depth` events at every small size, then the same after each pool made
-/// ready. Gives the first list that shows a disagreement, and what it is.
-pub fn run(depth: usize, counts: &mut Counts) -> Result<(), Disagreement> {
+/// ready, with so many slots. Gives the first list that shows a disagreement, and what it is.
+pub fn run(slots: usize, depth: usize, counts: &mut Counts) -> Result<(), Disagreement> {
     for capacity in 0..=SMALL {
         for overflow in 0..=SMALL {
-            explore(List { capacity, overflow, events: Vec::new() }, depth, counts)?;
+            explore(slots, List { capacity, overflow, events: Vec::new() }, depth, counts)?;
         }
     }
-    ready_lists().try_for_each(|list| explore(list, depth, counts))
+    ready_lists(slots).into_iter().try_for_each(|list| explore(slots, list, depth, counts))
 }
 
 /// Does a list, then every list of at most `depth` events after it.
-fn explore(start: List, depth: usize, counts: &mut Counts) -> Result<(), Disagreement> {
-    let made = Pair::new(start.capacity, start.overflow);
-    let pair = made.map_err(|cause| Disagreement::InList(start.clone(), cause))?;
+fn explore(
+    slots: usize,
+    start: List,
+    depth: usize,
+    counts: &mut Counts,
+) -> Result<(), Disagreement> {
+    let made = Pair::new(slots, start.capacity, start.overflow);
+    let pair = made.map_err(|cause| Disagreement::InList(slots, start.clone(), cause))?;
     counts.list(start.capacity, start.overflow);
     let events = start.events.clone();
-    let mut search = Search { list: List { events: Vec::new(), ..start }, pair, next: 0, counts };
+    let list = List { events: Vec::new(), ..start };
+    let mut search = Search { slots, list, pair, next: 0, counts };
     for event in events {
         search.step(event)?;
     }
@@ -81,6 +103,7 @@ fn explore(start: List, depth: usize, counts: &mut Counts) -> Result<(), Disagre
 
 /// A list that grows and shrinks, and the pair that has had it.
 struct Search<'a> {
+    slots: usize,
     list: List,
     pair: Pair,
     /// The value last written.
@@ -108,7 +131,7 @@ impl Search<'_> {
 
     /// The list as it stands shows this.
     fn found(&self, cause: String) -> Disagreement {
-        Disagreement::InList(self.list.clone(), cause)
+        Disagreement::InList(self.slots, self.list.clone(), cause)
     }
 
     /// Every list of at most `depth` more events.
@@ -117,12 +140,16 @@ impl Search<'_> {
             return Ok(());
         }
         let (events, next) = (self.list.events.len(), self.next);
+        // A refused call leaves the pair as it was: its copy serves the next choice.
+        let mut spare = None;
         for event in choices(&self.pair, self.list.overflow) {
-            let here = self.pair.again();
-            if !self.step(event)? {
+            let here = spare.take().unwrap_or_else(|| self.pair.again());
+            if self.step(event)? {
+                spare = Some(here);
+            } else {
                 self.below(depth - 1)?;
+                self.pair = here;
             }
-            self.pair = here;
             self.list.events.truncate(events);
             self.next = next;
         }
@@ -132,7 +159,7 @@ impl Search<'_> {
 
 /// What is tried where a pair stands: reserves of few bytes, of what fits and of one byte more;
 /// commits of none, one, all and one more; takes with enough and too little; truncates to none, one
-/// less and all; releases of each live slice, of the last serial given and of one never given. Pooled
+/// less and all; releases of live slices, of the last serial given and of one never given. Pooled
 /// slices are taken by callers 0 and 1 in turn, and one take is by a number that is no caller; the last
 /// serial given is also released for caller 2, which has none, and for no caller.
 fn choices(pair: &Pair, overflow: u32) -> Vec<Event> {
@@ -165,13 +192,23 @@ fn choices(pair: &Pair, overflow: u32) -> Vec<Event> {
     events
 }
 
+/// Of more than eight names the first three, the two in the middle and the last three.
+fn few(names: Vec<Name>) -> Vec<Name> {
+    match names.len() {
+        0..=8 => names,
+        all => {
+            [0, 1, 2, all / 2 - 1, all / 2, all - 3, all - 2, all - 1].map(|at| names[at]).into()
+        }
+    }
+}
+
 /// The caller whose turn it is, and the names that are released.
 fn named(pair: &Pair) -> (u8, Vec<Name>) {
     let serials = pair.judge.serials();
     let caller = (serials.iter().sum::<u32>() % 2) as u8;
     let before = 1 - caller;
     let serial = serials[usize::from(before)];
-    let mut names = pair.judge.live_names();
+    let mut names = few(pair.judge.live_names());
     names.extend([before, 2, CALLERS as u8].map(|caller| Name { caller, serial }));
     names.push(Name { caller, serial: 0 });
     names.sort_unstable();

@@ -16,6 +16,7 @@ mod stack;
 mod state;
 
 use counts::Counts;
+use oracle::pools::SLOT_COUNTS;
 use oracle::random::Random;
 use std::process::ExitCode;
 use std::time::Instant;
@@ -36,34 +37,50 @@ fn main() -> ExitCode {
     }
 }
 
-/// The whole comparison: fixed lists, every short list, lists from a seed, damaged input.
+/// The whole comparison, with pools of each slot count.
 fn compare(seed: u64, calls: u64, depth: usize) -> Result<(), String> {
     let start = Instant::now();
-    let (mut counts, mut damaged) = (Counts::new(), Counts::new());
-    lists::fixed(&mut counts)?;
-    println!("fixed lists: {} calls", counts.total());
-    let before = counts.total();
-    exhaustive::run(depth, &mut counts)?;
-    println!("every list of up to {depth} events: {} calls", counts.total() - before);
-    let before = counts.total();
-    lists::random(seed, calls, &mut counts, &mut damaged)?;
-    println!("lists from seed {seed}: {} calls", counts.total() - before);
-    damage::every_field(&mut Random::new(seed), &mut damaged)?;
-    damage::by_hand(calls / 4, &mut Random::new(seed ^ 1), &mut damaged)?;
+    let mut totals = Vec::new();
+    for slots in SLOT_COUNTS {
+        let total = compare_pools(slots, seed, calls, depth)?;
+        totals.push(format!("{total} calls with {slots} slots"));
+    }
     let new_pools = damage::new_pools()?;
-    report(&counts, &damaged, new_pools);
+    println!("new with slot counts and memories: {new_pools} calls, each as due");
+    println!("beside the Rust: {}", totals.join(", "));
     println!("{:.0} s", start.elapsed().as_secs_f64());
-    counts.tally.complaint().map_or(Ok(()), Err)
+    Ok(())
 }
 
-/// What was compared.
-fn report(counts: &Counts, damaged: &Counts, new_pools: u64) {
+/// With pools of so many slots: fixed lists, every short list, lists from a seed, damaged input. Gives the
+/// count of calls beside the Rust.
+fn compare_pools(slots: usize, seed: u64, calls: u64, depth: usize) -> Result<u64, String> {
+    let (mut counts, mut damaged) = (Counts::new(slots), Counts::new(slots));
+    println!("pools of {slots} slots");
+    lists::fixed(slots, &mut counts)?;
+    println!("fixed lists: {} calls", counts.total());
+    let before = counts.total();
+    exhaustive::run(slots, depth, &mut counts)?;
+    println!("every list of up to {depth} events: {} calls", counts.total() - before);
+    let before = counts.total();
+    lists::random(slots, seed, calls, &mut counts, &mut damaged)?;
+    println!("lists from seed {seed}: {} calls", counts.total() - before);
+    damage::every_field(slots, &mut Random::new(seed), &mut damaged)?;
+    damage::by_hand(slots, calls / 4, &mut Random::new(seed ^ 1), &mut damaged)?;
+    report(slots, &counts, &damaged);
+    match counts.tally.complaint() {
+        Some(cause) => Err(format!("with {slots} slots, {cause}")),
+        None => Ok(counts.total()),
+    }
+}
+
+/// What was compared with pools of so many slots.
+fn report(slots: usize, counts: &Counts, damaged: &Counts) {
     let (lists, writes, views) = (counts.lists, counts.writes, counts.views);
-    print!("\nclasses reached beside the Rust:\n{}", counts.tally.report());
-    println!("\nbeside the Rust: {} calls on {lists} new pools,", counts.total());
+    print!("\nclasses reached beside the Rust, with {slots} slots:\n{}", counts.tally.report());
+    println!("\nbeside the Rust: {} calls on {lists} new pools of {slots} slots,", counts.total());
     println!("{writes} writes, and {views} views after the calls; no disagreement");
     print!("{}", counts.table());
-    println!("\ndamaged input: {} calls, each as due", damaged.total());
-    print!("{}", damaged.table());
-    println!("new with memories around the limit: {new_pools} calls, each as due");
+    println!("\ndamaged input of {slots} slots: {} calls, each as due", damaged.total());
+    println!("{}", damaged.table());
 }

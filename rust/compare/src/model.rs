@@ -4,9 +4,11 @@
 
 use crate::given::Given;
 use crate::memory::Memory;
-use crate::sound::{live, sound};
+use crate::sound::{bit, is_count, live, sound};
 use crate::state::State;
-use buffer_pool::raw::{self, Handle, Place, Placed, Record, Reserved, Taken, CALLERS, SLOTS};
+use buffer_pool::raw::{
+    self, Created, Handle, Place, Placed, Record, Reserved, Taken, BYTE_LIMIT, CALLERS,
+};
 
 /// A call, or a view.
 #[derive(Clone, Copy, Debug)]
@@ -59,9 +61,20 @@ fn placed(place: Place) -> Given {
     Given::Placed(Placed { place, refusal: 0 })
 }
 
-/// The record of a new pool with memories of these lengths.
-pub fn new_record(capacity: usize, overflow: usize) -> Record {
-    Record { capacity: capacity as u64, overflow: overflow as u64, ..Record::default() }
+/// The record of a new pool with so many slots and memories of these lengths.
+pub fn new_record(slots: usize, capacity: usize, overflow: usize) -> Record {
+    Record { slots, capacity: capacity as u64, overflow: overflow as u64, ..Record::default() }
+}
+
+/// What new gives: 16 for a slot count that is none, then 3 for a memory that is too long. A refused new
+/// gives the record of a new pool of 8 slots with lengths of 0.
+pub fn created(slots: usize, capacity: usize, overflow: usize) -> Created {
+    let refusal = match (is_count(slots), capacity.max(overflow) > BYTE_LIMIT) {
+        (false, _) => 16,
+        (true, true) => 3,
+        _ => return Created { record: new_record(slots, capacity, overflow), refusal: 0 },
+    };
+    Created { record: new_record(8, 0, 0), refusal }
 }
 
 /// The frame's place.
@@ -78,13 +91,14 @@ fn reservation(r: &Record) -> Place {
     Place { start: start + length, length: r.reserved, memory }
 }
 
-/// Whether a handle names a live slice: its slot is one of 1 to 8 and live, its caller one of 0 to 3,
-/// and start, length, serial and caller are that slot's.
+/// Whether a handle names a live slice: its slot is one of 1 to the slot count and live, its caller one of
+/// 0 to 3, and start, length, serial and caller are that slot's.
 fn names_live(r: &Record, h: &Handle) -> bool {
-    let at = usize::from(h.slot).wrapping_sub(1);
-    at < SLOTS
+    let slot = usize::from(h.slot);
+    let at = slot.wrapping_sub(1);
+    (1..=r.slots).contains(&slot)
         && usize::from(h.caller) < CALLERS
-        && r.live & (0x80 >> at) != 0
+        && r.live & bit(r, slot) != 0
         && (r.starts[at], r.lengths[at], r.serials[at]) == (h.start, h.length, h.serial)
         && u16::from(r.callers[at]) == h.caller
 }
@@ -131,7 +145,7 @@ pub fn perform(state: &mut State, call: &Call, destination: &mut Memory) -> Give
             return Given::Taken(take(state, caller as usize, destination));
         }
         Call::Release(h) => {
-            r.live &= !(0x80 >> (h.slot - 1));
+            r.live &= !bit(r, h.slot.into());
             return Given::Released(0);
         }
         Call::Reservation => return placed(reservation(r)),
@@ -174,8 +188,8 @@ fn take(state: &mut State, caller: usize, destination: &mut Memory) -> Taken {
     let serial = r.given[caller];
     (r.starts[at], r.lengths[at], r.serials[at]) = (start as u32, length as u32, serial);
     r.callers[at] = caller as u8;
-    r.live |= 0x80 >> at;
     r.used += 1;
+    r.live |= bit(r, r.used);
     match r.mode {
         raw::BACK => r.back_len += 1,
         _ => r.front_len += 1,
@@ -188,8 +202,8 @@ fn take(state: &mut State, caller: usize, destination: &mut Memory) -> Taken {
 
 /// What must hold of a reserve on a passing record with memories of its lengths: refused with 4 only
 /// if frame and reservation exceed the overflow, and then nothing changes; else a passing record with
-/// the same live slices, handles, serials and callers, their bytes and the frame's bytes as they were,
-/// and a reservation of this length at the frame's end, after at most two changes.
+/// the same slot count, live slices, handles, serials and callers, their bytes and the frame's bytes as
+/// they were, and a reservation of this length at the frame's end, after at most two changes.
 pub fn reserve(
     before: &State,
     len: u64,
@@ -211,6 +225,7 @@ pub fn reserve(
     holds(&[
         (sound(new), "the record does not pass any more"),
         ((new.capacity, new.overflow) == (old.capacity, old.overflow), "a length changes"),
+        (new.slots == old.slots, "the slot count changes"),
         ((new.live, new.given) == (old.live, old.given), "live or serials given"),
         (
             (new.serials, new.callers) == (old.serials, old.callers),

@@ -7,7 +7,7 @@ use buffer_pool::raw::{self, Handle, Place, Placed, Record, Reserved, Taken};
 use oracle::calls::{Event, List, Name, View};
 use oracle::classes::classes;
 use oracle::judge::{Answer, Judge};
-use oracle::record::{self, Mode, SLOTS};
+use oracle::record::{self, Mode};
 use std::fmt::Debug;
 
 /// A pool of the Rust and one of the archive that have had the same calls and writes.
@@ -17,9 +17,10 @@ pub struct Pair {
 }
 
 impl Pair {
-    pub fn new(capacity: u32, overflow: u32) -> Result<Pair, String> {
-        let pair =
-            Pair { judge: Judge::new(capacity, overflow), port: Port::new(capacity, overflow)? };
+    /// New pools of so many slots.
+    pub fn new(slots: usize, capacity: u32, overflow: u32) -> Result<Pair, String> {
+        let judge = Judge::new(slots, capacity, overflow);
+        let pair = Pair { judge, port: Port::new(slots, capacity, overflow)? };
         pair.compare()?;
         Ok(pair)
     }
@@ -89,7 +90,8 @@ impl Pair {
         }
         let name = Name { caller, serial: self.judge.serials()[usize::from(caller)] };
         let taken = |&p: &usize| self.judge.slice_place(p).is_some_and(|(of, ..)| of == name);
-        let slot = (1..=SLOTS).find(taken).expect("a slot of the slice");
+        let slots = self.judge.situation().record.count;
+        let slot = (1..=slots).find(taken).expect("a slot of the slice");
         self.slot_handle(slot).expect("a live slot")
     }
 
@@ -144,8 +146,9 @@ impl Pair {
     }
 }
 
-/// The archive's record as the Rust's numbers, with the low byte of the live word. A mode that is
-/// none has no such numbers and is taken as a front without slots, which the Rust never has.
+/// The archive's record as the Rust's numbers, with the low half of the live word; above the slot count
+/// the Rust has none, and the archive zeros. A mode that is none has no such numbers and is taken as a
+/// front without slots, which the Rust never has.
 fn numbers(record: &Record) -> record::Record {
     let mode = match record.mode {
         raw::BACK => Mode::Back,
@@ -159,13 +162,14 @@ fn numbers(record: &Record) -> record::Record {
     };
     let slot = |at: usize| (record.starts[at] as usize, record.lengths[at] as usize);
     record::Record {
+        count: record.slots,
         mode,
-        live: record.live as u8,
+        live: record.live as u16,
         back_start: record.back_start,
         back_count: record.back_len,
         frame_start: record.raw_offset as usize,
         frame_len: record.raw_len as usize,
-        slots: std::array::from_fn::<_, SLOTS, _>(slot),
+        slots: std::array::from_fn(slot),
         used: record.used,
     }
 }
@@ -178,9 +182,10 @@ fn same<T: PartialEq + Debug>(what: &str, rust: &T, port: &T) -> Result<(), Stri
     Err(format!("{what}\n  the Rust: {rust:?}\n  the port: {port:?}"))
 }
 
-/// Runs a list; gives the disagreement and how many events had been done with it, if there is one.
-pub fn run(list: &List, counts: &mut Counts) -> Result<(), (usize, String)> {
-    let mut pair = Pair::new(list.capacity, list.overflow).map_err(|cause| (0, cause))?;
+/// Runs a list on pools of so many slots; gives the disagreement and how many events had been done with
+/// it, if there is one.
+pub fn run(slots: usize, list: &List, counts: &mut Counts) -> Result<(), (usize, String)> {
+    let mut pair = Pair::new(slots, list.capacity, list.overflow).map_err(|cause| (0, cause))?;
     counts.list(list.capacity, list.overflow);
     for (at, event) in list.events.iter().enumerate() {
         pair.apply(event, counts).map_err(|cause| (at + 1, cause))?;

@@ -3,8 +3,9 @@
 use crate::given::Given;
 use crate::memory::Memory;
 use crate::model::new_record;
+use crate::sound;
 use crate::state::State;
-use buffer_pool::raw::{Created, Handle, Placed, CALLERS, SLOTS};
+use buffer_pool::raw::{Created, Handle, Placed, CALLERS};
 use oracle::calls::{Event, Name, View};
 
 /// What a destination holds before a take.
@@ -20,12 +21,12 @@ pub struct Port {
 }
 
 impl Port {
-    /// A new pool. The overflow's bytes are not zeros, as firmware lends it as found.
-    pub fn new(capacity: u32, overflow: u32) -> Result<Port, String> {
-        let record = new_record(capacity as usize, overflow as usize);
+    /// A new pool of so many slots. The overflow's bytes are not zeros, as firmware lends it as found.
+    pub fn new(slots: usize, capacity: u32, overflow: u32) -> Result<Port, String> {
+        let record = new_record(slots, capacity as usize, overflow as usize);
         let pool = Memory::marked(capacity as usize, 1);
         let overflow = Memory::marked(overflow as usize, 0x81);
-        let (state, created) = State::new(pool, overflow.clone());
+        let (state, created) = State::new(slots, pool, overflow.clone());
         if created.as_bytes() != (Created { record, refusal: 0 }).as_bytes() {
             return Err(format!("new gives {created:?}"));
         }
@@ -94,11 +95,10 @@ impl Port {
     /// slice by the caller alone or by the serial alone, where there is such a slice.
     fn invented(&self, name: Name) -> Handle {
         let r = &self.state.record;
-        let live = |at: &usize| r.live & (0x80 >> at) != 0;
-        let of_serial = |at: &usize| live(at) && r.serials[*at] == name.serial;
-        let of_caller = |at: &usize| live(at) && r.callers[*at] == name.caller;
-        let at = (0..SLOTS).find(of_serial).or_else(|| (0..SLOTS).find(of_caller));
-        let at = at.unwrap_or(name.serial as usize % SLOTS);
+        let live = || sound::live(r).map(|(p, ..)| p - 1);
+        let of_serial = live().find(|&at| r.serials[at] == name.serial);
+        let of_caller = || live().find(|&at| r.callers[at] == name.caller);
+        let at = of_serial.or_else(of_caller).unwrap_or(name.serial as usize % r.slots);
         Handle {
             start: r.starts[at],
             length: r.lengths[at],

@@ -7,8 +7,8 @@ use oracle::text;
 
 /// Port and Rust, or port and specification, do not agree.
 pub enum Disagreement {
-    /// After the last event of a list.
-    InList(List, String),
+    /// After the last event of a list, on pools of so many slots.
+    InList(usize, List, String),
     /// In one call, on input that the text says.
     OnDamaged(String),
 }
@@ -18,9 +18,10 @@ impl From<Disagreement> for String {
     fn from(found: Disagreement) -> String {
         match found {
             Disagreement::OnDamaged(cause) => cause,
-            Disagreement::InList(list, cause) => {
-                let (list, cause) = shrink(&list).unwrap_or((list, cause));
-                format!("{cause}\nafter the last event of\n{}", text::print(&[list]))
+            Disagreement::InList(slots, list, cause) => {
+                let (list, cause) = shrink(slots, &list).unwrap_or((list, cause));
+                let list = text::print(&[list]);
+                format!("{cause}\nwith {slots} slots, after the last event of\n{list}")
             }
         }
     }
@@ -28,15 +29,15 @@ impl From<Disagreement> for String {
 
 /// Drops what comes after the disagreement, then each event without which there still is one, until
 /// none can go. Gives the list and what disagrees at its end, or nothing if the list shows none.
-fn shrink(list: &List) -> Option<(List, String)> {
+fn shrink(slots: usize, list: &List) -> Option<(List, String)> {
     let mut shortest = list.clone();
-    let mut cause = cut(&mut shortest)?;
+    let mut cause = cut(slots, &mut shortest)?;
     let mut at = shortest.events.len();
     while at > 0 {
         at -= 1;
         let mut shorter = shortest.clone();
         shorter.events.remove(at);
-        if let Some(found) = cut(&mut shorter) {
+        if let Some(found) = cut(slots, &mut shorter) {
             (shortest, cause) = (shorter, found);
             at = shortest.events.len();
         }
@@ -45,8 +46,8 @@ fn shrink(list: &List) -> Option<(List, String)> {
 }
 
 /// Cuts a list off after its disagreement, if it has one, and says which.
-fn cut(list: &mut List) -> Option<String> {
-    let (done, cause) = pair::run(list, &mut Counts::new()).err()?;
+fn cut(slots: usize, list: &mut List) -> Option<String> {
+    let (done, cause) = pair::run(slots, list, &mut Counts::new(slots)).err()?;
     list.events.truncate(done);
     Some(cause)
 }

@@ -22,13 +22,14 @@ impl PartialEq for State {
 }
 
 impl State {
-    /// A new pool of these memories, and what the call gives. Their bytes are as it left them.
-    pub fn new(mut pool: Memory, overflow: Memory) -> (State, Created) {
-        let (bytes, other) = (pool.bytes_mut(), overflow.bytes());
+    /// A new pool of so many slots and of these memories, and what the call gives. Their bytes are as it
+    /// left them.
+    pub fn new(slots: usize, mut pool: Memory, overflow: Memory) -> (State, Created) {
+        let (bytes, len) = (pool.bytes_mut().as_mut_ptr(), pool.len());
+        let (other, other_len) = (overflow.bytes().as_ptr(), overflow.len());
         // SAFETY: both memories are borrowed here, with their lengths.
-        let created = on_filled(|| unsafe {
-            raw::buffer_pool_new(bytes.as_mut_ptr(), bytes.len(), other.as_ptr(), other.len())
-        });
+        let created =
+            on_filled(|| unsafe { raw::buffer_pool_new(slots, bytes, len, other, other_len) });
         (State { record: created.record, pool, overflow }, created)
     }
 

@@ -1,6 +1,6 @@
 -- `calls::release_cause` meets its contract. Assumes nothing.
 use Rattle.buffer_pool.proofs.StepLaws.{release-seven, release-zero}
-use Rattle.buffer_pool.proofs.CallLaws.{number-guarded, number-own}
+use Rattle.buffer_pool.proofs.CallLaws.{number-guarded, number-own, through-most}
 use borrow.Author.Needs.{needs}
 use Rattle.buffer_pool.proofs.calls.release_cause.Statement.{statement}
 use Rattle.buffer_pool.proofs.calls.release_cause.Tie as tie
@@ -12,7 +12,7 @@ returns : tie.Need-returns
 returns c = search number-guarded
 
 names-requires : tie.Need-names-requires
-names-requires c κs = search needs
+names-requires c κs = search (through-most, needs)
 
 returns-2 : tie.Need-returns-2
 returns-2 c = search (number-own, release-seven)

@@ -23,7 +23,15 @@ wide-requires : tie.Need-wide-requires
 wide-requires c κs = search needs
 
 returns-3 : tie.Need-returns-3
-returns-3 c = search head-short
+returns-3 c =
+    search (
+      head-short,
+      c .if3 .taken,
+      c .before .before .wide .ensures .0,
+      c .before .before .before .before .if2 .left,
+      c .before .before .before .before .before .if1 .left,
+      c .before .before .before .before .before .before .leading .ensures .0,
+    )
 
 head-cleared-requires : tie.Need-head-cleared-requires
 head-cleared-requires c κs = search needs

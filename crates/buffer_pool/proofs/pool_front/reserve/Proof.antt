@@ -1,5 +1,5 @@
 -- `pool_front::reserve` meets its contract. Assumes nothing.
-use Rattle.buffer_pool.proofs.FrontLaws.{front-cleared-back, front-cleared-cursor, front-keeps, front-leaves, front-drops, front-drops-leaves}
+use Rattle.buffer_pool.proofs.FrontLaws.{front-cleared-worded, front-cleared-back, front-cleared-cursor, front-keeps, front-leaves, front-drops, front-drops-leaves}
 use borrow.Author.Needs.{needs}
 use Rattle.buffer_pool.proofs.pool_front.reserve.Statement.{statement}
 use Rattle.buffer_pool.proofs.pool_front.reserve.Tie as tie
@@ -38,7 +38,7 @@ returns-3 : tie.Need-returns-3
 returns-3 c = search (front-drops, needs)
 
 leave-requires-2 : tie.Need-leave-requires-2
-leave-requires-2 c κs = search (front-cleared-back, front-cleared-cursor, needs)
+leave-requires-2 c κs = search (front-cleared-worded, front-cleared-back, front-cleared-cursor, needs)
 
 returns-4 : tie.Need-returns-4
 returns-4 c = search (front-drops-leaves, needs)

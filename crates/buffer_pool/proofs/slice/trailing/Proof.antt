@@ -1,15 +1,17 @@
 -- `slice::trailing` meets its contract. Assumes nothing.
-use lib.Count.{trailing-le}
-use native.Mathlib.Omega.{arith}
-use mathlib.Core.Path.{refl}
+use borrow.Author.Needs.{needs}
+use Rattle.buffer_pool.proofs.SliceLaws.{zeros-past, zeros-are}
 use Rattle.buffer_pool.proofs.slice.trailing.Statement.{statement}
 use Rattle.buffer_pool.proofs.slice.trailing.Tie as tie
 
-cast-result : tie.Need-cast-result
-cast-result c = omega (arith, trailing-le 8 (c .args .live))
+zeros-requires : tie.Need-zeros-requires
+zeros-requires c κs = search needs
 
 returns : tie.Need-returns
-returns c = (refl, trailing-le 8 (c .args .live))
+returns c = search (zeros-past, needs)
+
+returns-2 : tie.Need-returns-2
+returns-2 c = search (zeros-are, needs)
 
 pub trailing-spec : {M : Type 1} → statement M
-trailing-spec = tie.close (tie.spec cast-result returns)
+trailing-spec = tie.close (tie.spec zeros-requires returns returns-2)

@@ -7,9 +7,6 @@ use Rattle.buffer_pool.proofs.sound.slot_pass.Tie as tie
 add-p : tie.Need-add-p
 add-p c = search needs
 
-cast-is-live : tie.Need-cast-is-live
-cast-is-live c = search needs
-
 is-live-requires : tie.Need-is-live-requires
 is-live-requires c κs = search needs
 
@@ -48,7 +45,6 @@ slot-pass-spec =
     tie.close
     (tie.spec
     add-p
-    cast-is-live
     is-live-requires
     returns
     mul-wide

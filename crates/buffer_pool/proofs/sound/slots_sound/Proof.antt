@@ -1,18 +1,18 @@
 -- `sound::slots_sound` meets its contract. The slots from index i on are left to pass, after a live slot that ends at end. Assumes nothing.
 use borrow.Author.Needs.{needs}
-use Rattle.buffer_pool.proofs.SlotPassLaws.{pass-fails, passes-more, passes-all}
-use Rattle.buffer_pool.specs.SlotPass.{passes}
-use Prim.Native.Nat.{_-_, _≤_}
 use mathlib.Core.Path.{_≡_}
+use Prim.Native.Nat.{_-_, _≤_}
+use Rattle.buffer_pool.specs.SlotPass.{passes}
+use Rattle.buffer_pool.proofs.SlotPassLaws.{passes-start, pass-fails, passes-more, passes-all}
 use Rattle.buffer_pool.proofs.sound.slots_sound.Statement.{statement}
 use Rattle.buffer_pool.proofs.sound.slots_sound.Tie as tie
 
 abbrev Inv-loop : tie.InvT-loop
-Inv-loop starts lengths live b last i₀ end₀ i end =
-    (i ≤ last) × (last ≤ 8) × (passes starts lengths live b 8 0 0 ≡ passes starts lengths live b (8 - i) i end)
+Inv-loop starts lengths slots live b last i₀ end₀ i end =
+    (i ≤ last) × (last ≤ slots) × (passes slots starts lengths live b slots 0 0 ≡ passes slots starts lengths live b (slots - i) i end)
 
 abbrev μ-loop : tie.MeasureT-loop
-μ-loop starts lengths live b last i₀ end₀ i end = last - i
+μ-loop starts lengths slots live b last i₀ end₀ i end = last - i
 
 trailing-requires : tie.Need-trailing-requires Inv-loop μ-loop
 trailing-requires c κs = search needs
@@ -21,7 +21,7 @@ sub-last : tie.Need-sub-last Inv-loop μ-loop
 sub-last c = search needs
 
 loop-holds : tie.Need-loop-holds Inv-loop μ-loop
-loop-holds c = search (needs)
+loop-holds c = search (passes-start, needs)
 
 slot-pass-requires : tie.Need-slot-pass-requires Inv-loop μ-loop
 slot-pass-requires c κs = search needs

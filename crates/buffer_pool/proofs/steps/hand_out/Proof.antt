@@ -49,9 +49,6 @@ array-write-callers c = search needs
 add-position : tie.Need-add-position
 add-position c = search needs
 
-cast-claim : tie.Need-cast-claim
-cast-claim c = search needs
-
 claim-requires : tie.Need-claim-requires
 claim-requires c κs = search needs
 
@@ -80,7 +77,6 @@ hand-out-spec =
     cast-callers
     array-write-callers
     add-position
-    cast-claim
     claim-requires
     add-t32
     returns)

@@ -7,8 +7,8 @@ use Rattle.buffer_pool.proofs.steps.names.Tie as tie
 returns : tie.Need-returns
 returns c = search slot-zero
 
-cast-if2 : tie.Need-cast-if2
-cast-if2 c = search needs
+cast-i : tie.Need-cast-i
+cast-i c = search needs
 
 returns-2 : tie.Need-returns-2
 returns-2 c = search slot-past
@@ -19,11 +19,8 @@ is-live-requires c κs = search needs
 returns-3 : tie.Need-returns-3
 returns-3 c = search slot-free
 
-cast-i : tie.Need-cast-i
-cast-i c = search needs
-
-sub-i : tie.Need-sub-i
-sub-i c = search needs
+sub-k : tie.Need-sub-k
+sub-k c = search needs
 
 mul-if4 : tie.Need-mul-if4
 mul-if4 c = search needs
@@ -69,12 +66,11 @@ names-spec =
     tie.close
     (tie.spec
     returns
-    cast-if2
+    cast-i
     returns-2
     is-live-requires
     returns-3
-    cast-i
-    sub-i
+    sub-k
     mul-if4
     array-read-if4
     returns-4

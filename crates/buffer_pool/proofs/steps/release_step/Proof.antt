@@ -13,6 +13,9 @@ refused-requires c κs = search needs
 returns : tie.Need-returns
 returns c = search release-refused
 
+cast-release : tie.Need-cast-release
+cast-release c = search needs
+
 release-requires : tie.Need-release-requires
 release-requires c κs = search (named-one, named-most, needs)
 
@@ -21,4 +24,5 @@ returns-2 c = search release-done
 
 pub release-step-spec : {M : Type 1} → statement M
 release-step-spec =
-    tie.close (tie.spec names-requires refused-requires returns release-requires returns-2)
+    tie.close
+    (tie.spec names-requires refused-requires returns cast-release release-requires returns-2)

@@ -1,5 +1,5 @@
 -- `steps::take_step` meets its contract. Assumes nothing.
-use Rattle.buffer_pool.proofs.StepLaws.{taken-by-none, taken-empty, slot-fits, back-slot, back-used, back-bytes, front-slot, front-bytes, alloc-kept, taken-back, taken-front, taken-alloc}
+use Rattle.buffer_pool.proofs.StepLaws.{few-slots, taken-by-none, taken-empty, slot-fits, back-slot, back-used, back-bytes, front-slot, front-bytes, alloc-kept, taken-back, taken-front, taken-alloc}
 use borrow.Author.Needs.{needs}
 use Rattle.buffer_pool.proofs.steps.take_step.Statement.{statement}
 use Rattle.buffer_pool.proofs.steps.take_step.Tie as tie
@@ -29,7 +29,7 @@ sub-take-pooled : tie.Need-sub-take-pooled
 sub-take-pooled c = search (back-used, needs)
 
 take-pooled-requires : tie.Need-take-pooled-requires
-take-pooled-requires c κs = search (back-slot, back-bytes, needs)
+take-pooled-requires c κs = search (back-slot, back-bytes, few-slots, needs)
 
 enum-known-mode : tie.Need-enum-known-mode
 enum-known-mode c = search needs
@@ -38,7 +38,7 @@ add-t15 : tie.Need-add-t15
 add-t15 c = search (slot-fits, front-slot, needs)
 
 take-pooled-requires-2 : tie.Need-take-pooled-requires-2
-take-pooled-requires-2 c κs = search (front-slot, front-bytes, needs)
+take-pooled-requires-2 c κs = search (front-slot, front-bytes, few-slots, needs)
 
 enum-told-2 : tie.Need-enum-told-2
 enum-told-2 c = search needs

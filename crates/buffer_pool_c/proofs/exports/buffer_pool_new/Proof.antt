@@ -16,8 +16,8 @@ record-of-requires c κs = search needs
 refusal-requires : tie.Need-refusal-requires
 refusal-requires c κs = search needs
 
-cast-t10 : tie.Need-cast-t10
-cast-t10 c = search needs
+cast-t11 : tie.Need-cast-t11
+cast-t11 c = search needs
 
 same-length : tie.Need-same-length
 same-length c = search needs
@@ -26,4 +26,4 @@ returns : tie.Need-returns
 returns c = search new-as
 
 pub buffer-pool-new-spec : {M : Type 1} → statement M
-buffer-pool-new-spec = tie.close (tie.spec new-requires no-front-requires record-of-requires refusal-requires cast-t10 same-length returns)
+buffer-pool-new-spec = tie.close (tie.spec new-requires no-front-requires record-of-requires refusal-requires cast-t11 same-length returns)

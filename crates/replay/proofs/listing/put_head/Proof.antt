@@ -19,6 +19,9 @@ put-number-requires c κs = search needs
 put-letter-requires-2 : tie.Need-put-letter-requires-2
 put-letter-requires-2 c κs = search needs
 
+cast-put-hex : tie.Need-cast-put-hex
+cast-put-hex c = search needs
+
 put-hex-requires : tie.Need-put-hex-requires
 put-hex-requires c κs = search needs
 
@@ -37,6 +40,7 @@ put-head-spec =
     cast-put-number
     put-number-requires
     put-letter-requires-2
+    cast-put-hex
     put-hex-requires
     same-length
     returns)

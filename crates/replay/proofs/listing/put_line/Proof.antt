@@ -42,7 +42,7 @@ returns c =
     let l = c .before .before .put in (
       whole-line (output (a .at) (now (a .out))) (output (h .result) (h .last .0)) (output (i .result) (i .last .0)) (output (j .result) (j .last .0))
           (output (k .result) (k .last .0)) (output (l .result) (l .last .0)) (a .event) (a .s) (toZ w64 (ofZ w64 (m .result)))
-          (h .ensures .0) (i .ensures .0) (j .ensures .0) (move-read (a .s .frame) (p .1) (p .2) (m .result) (m .ensures)) (k .ensures .0) (l .ensures .0),
+          (h .ensures .0) (i .ensures .0) (j .ensures .0) (move-read (a .s .frame) (p .2) (p .3) (m .result) (m .ensures)) (k .ensures .0) (l .ensures .0),
       search needs,
     )
 

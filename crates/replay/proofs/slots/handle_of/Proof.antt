@@ -10,23 +10,23 @@ slot-of-requires c κs = search needs
 returns : tie.Need-returns
 returns c = search handle-none
 
-cast-i : tie.Need-cast-i
-cast-i c = search needs
-
 sub-i : tie.Need-sub-i
 sub-i c = search needs
 
-mul-t9 : tie.Need-mul-t9
-mul-t9 c = search needs
+cast-t9 : tie.Need-cast-t9
+cast-t9 c = search needs
 
-array-read-t12 : tie.Need-array-read-t12
-array-read-t12 c = search needs
+mul-t10 : tie.Need-mul-t10
+mul-t10 c = search needs
 
-mul-t13 : tie.Need-mul-t13
-mul-t13 c = search needs
+array-read-t13 : tie.Need-array-read-t13
+array-read-t13 c = search needs
 
-array-read-t16 : tie.Need-array-read-t16
-array-read-t16 c = search needs
+mul-t14 : tie.Need-mul-t14
+mul-t14 c = search needs
+
+array-read-t17 : tie.Need-array-read-t17
+array-read-t17 c = search needs
 
 returns-2 : tie.Need-returns-2
 returns-2 c = search handle-some
@@ -37,10 +37,10 @@ handle-of-spec =
     (tie.spec
     slot-of-requires
     returns
-    cast-i
     sub-i
-    mul-t9
-    array-read-t12
-    mul-t13
-    array-read-t16
+    cast-t9
+    mul-t10
+    array-read-t13
+    mul-t14
+    array-read-t17
     returns-2)

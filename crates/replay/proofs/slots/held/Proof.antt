@@ -2,19 +2,22 @@
 use borrow.Author.Needs.{needs}
 use Rattle.replay.specs.Slots.{heldFrom}
 use mathlib.Core.Path.{_≡_}
-use Prim.Native.Nat.{_+_, _*_, _-_, _≤_}
-use Rattle.replay.proofs.SlotLaws.{held-more, held-all}
+use Prim.Native.Nat.{suc, _+_, _*_, _-_, _≤_}
+use Rattle.buffer_pool.specs.Record.{mostSlots}
+use Rattle.replay.proofs.SlotLaws.{held-first, held-more, held-all}
 use Rattle.replay.proofs.slots.held.Statement.{statement}
 use Rattle.replay.proofs.slots.held.Tie as tie
 
 abbrev Inv-loop : tie.InvT-loop
-Inv-loop live lengths total₀ p₀ total p = (1 ≤ p) × (p ≤ 9) × (total ≤ p * 4294967296) × (total + heldFrom live lengths p (9 - p) ≡ heldFrom live lengths 1 8)
+Inv-loop slots live lengths total₀ p₀ total p =
+    (1 ≤ p) × (p ≤ suc slots) × (slots ≤ mostSlots) × (total ≤ p * 4294967296)
+    × (total + heldFrom slots live lengths p (suc slots - p) ≡ heldFrom slots live lengths 1 slots)
 
 abbrev μ-loop : tie.MeasureT-loop
-μ-loop live lengths total₀ p₀ total p = 9 - p
+μ-loop slots live lengths total₀ p₀ total p = suc slots - p
 
 loop-holds : tie.Need-loop-holds Inv-loop μ-loop
-loop-holds c = search needs
+loop-holds c = search (held-first, needs)
 
 held-at-requires : tie.Need-held-at-requires Inv-loop μ-loop
 held-at-requires c κs = search needs

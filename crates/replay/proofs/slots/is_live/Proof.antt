@@ -8,7 +8,7 @@ mask-requires : tie.Need-mask-requires
 mask-requires c κs = search needs
 
 returns : tie.Need-returns
-returns c = rw (c .mask .ensures) (live-test 8 (c .before .args .live) (c .before .args .p))
+returns c = rw (c .mask .ensures) (live-test (c .before .args .slots) (c .before .args .live) (c .before .args .p))
 
 pub is-live-spec : {M : Type 1} → statement M
 is-live-spec = tie.close (tie.spec mask-requires returns)

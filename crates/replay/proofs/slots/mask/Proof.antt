@@ -1,5 +1,5 @@
 -- `slots::mask` meets its contract. Assumes nothing.
-use Rattle.laws.proofs.Slots.{mask-down}
+use Rattle.laws.proofs.Words.{mask-wide}
 use borrow.Author.Needs.{needs}
 use Rattle.replay.proofs.slots.mask.Statement.{statement}
 use Rattle.replay.proofs.slots.mask.Tie as tie
@@ -7,11 +7,14 @@ use Rattle.replay.proofs.slots.mask.Tie as tie
 sub-result : tie.Need-sub-result
 sub-result c = search needs
 
-shr-result : tie.Need-shr-result
-shr-result c = search needs
+cast-result : tie.Need-cast-result
+cast-result c = search needs
+
+shl-result : tie.Need-shl-result
+shl-result c = search needs
 
 returns : tie.Need-returns
-returns c = mask-down 8 (c .args .p) (c .pre .0) (c .pre .1)
+returns c = mask-wide 16 (c .args .slots) (c .args .p) (c .pre .0) (c .pre .1) (c .pre .2)
 
 pub mask-spec : {M : Type 1} → statement M
-mask-spec = tie.close (tie.spec sub-result shr-result returns)
+mask-spec = tie.close (tie.spec sub-result cast-result shl-result returns)

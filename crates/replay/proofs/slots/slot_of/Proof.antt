@@ -2,20 +2,22 @@
 use borrow.Author.Needs.{needs}
 use Rattle.replay.specs.Slots.{slotFrom}
 use mathlib.Core.Path.{_≡_}
-use Prim.Native.Nat.{_-_, _≤_}
-use Rattle.replay.proofs.SlotLaws.{slot-here, slot-more, slot-none}
+use Prim.Native.Nat.{suc, _-_, _≤_}
+use Rattle.buffer_pool.specs.Record.{mostSlots}
+use Rattle.replay.proofs.SlotLaws.{slot-first, slot-here, slot-more, slot-none}
 use Rattle.replay.proofs.slots.slot_of.Statement.{statement}
 use Rattle.replay.proofs.slots.slot_of.Tie as tie
 
 abbrev Inv-loop : tie.InvT-loop
-Inv-loop caller serial live callers serials p₀ p =
-    (1 ≤ p) × (p ≤ 9) × (slotFrom live callers serials caller serial 1 8 ≡ slotFrom live callers serials caller serial p (9 - p))
+Inv-loop caller serial slots live callers serials p₀ p =
+    (1 ≤ p) × (p ≤ suc slots) × (slots ≤ mostSlots)
+    × (slotFrom slots live callers serials caller serial 1 slots ≡ slotFrom slots live callers serials caller serial p (suc slots - p))
 
 abbrev μ-loop : tie.MeasureT-loop
-μ-loop caller serial live callers serials p₀ p = 9 - p
+μ-loop caller serial slots live callers serials p₀ p = suc slots - p
 
 loop-holds : tie.Need-loop-holds Inv-loop μ-loop
-loop-holds c = search needs
+loop-holds c = (search needs, search needs, search needs, slot-first _ _ _ _ _ _)
 
 bears-requires : tie.Need-bears-requires Inv-loop μ-loop
 bears-requires c κs = search needs

@@ -1,5 +1,5 @@
 -- `walk::put_event` meets its contract. The run's part and the line's part, by explicit paths: search enters too few records here. Assumes nothing.
-use Rattle.replay.proofs.WalkLaws.{small-before, small-after, event-left, event-line}
+use Rattle.replay.proofs.WalkLaws.{few-slots, small-live, small-before, small-after, event-left, event-line}
 use Rattle.replay.specs.Text.{output}
 use Rattle.buffer_pool.specs.Moves.{memories}
 use denote.Ref.{now}
@@ -8,7 +8,7 @@ use Rattle.replay.proofs.walk.put_event.Statement.{statement}
 use Rattle.replay.proofs.walk.put_event.Tie as tie
 
 run-event-requires : tie.Need-run-event-requires
-run-event-requires c κs = search needs
+run-event-requires c κs = search (few-slots, needs)
 
 put-line-requires : tie.Need-put-line-requires
 put-line-requires c κs =
@@ -18,7 +18,7 @@ put-line-requires c κs =
     let m = memories (now (a .pool)) (now (a .overflow)) in
     let o = memories (x .last .1 .0) (x .last .1 .1 .0) in
     let f = x .last .1 .1 .1 .0 in
-    (p .0 .0, small-before (now (a .bytes)) (a .w .state) m o (now (a .destination)) f (a .e) (x .result) (x .ensures) (p .0 .1), small-after (now (a .bytes)) (a .w .state) m o (now (a .destination)) f (a .e) (x .result) (x .ensures) (p .0 .1))
+    (p .0 .0, small-live (now (a .bytes)) (a .w .state) m o (now (a .destination)) f (a .e) (x .result) (x .ensures) (p .0 .1), small-before (now (a .bytes)) (a .w .state) m o (now (a .destination)) f (a .e) (x .result) (x .ensures) (p .0 .1), small-after (now (a .bytes)) (a .w .state) m o (now (a .destination)) f (a .e) (x .result) (x .ensures) (p .0 .1))
 
 same-length : tie.Need-same-length
 same-length c = search needs

@@ -1,6 +1,6 @@
 -- `walk::put_events` meets its contract. With what is written, the lines of the events from i on are the whole; the record stays sound, and each count at most i. Assumes nothing.
 use borrow.Author.Needs.{needs}
-use Rattle.replay.proofs.WalkLaws.{next-sound, next-next, next-within, walk-more, walk-end}
+use Rattle.replay.proofs.WalkLaws.{few-slots, next-sound, next-next, next-within, walk-more, walk-end}
 use Rattle.replay.specs.Listing.{lines}
 use Rattle.replay.specs.Run.{Within, running}
 use Rattle.replay.specs.Text.{output, wrote}
@@ -93,7 +93,7 @@ put-last-requires c κs =
     let w = c .before .before .before .before .before .loop in
     let v = w .inv in
     let n = c .before .before .before .before .before .before .before .before .before .before .before .before .fits .events .fits in
-    (omega (arith, v .6, v .0, n), (omega (arith, v .9 .0, v .0, n), omega (arith, v .9 .1, v .0, n), omega (arith, v .9 .2, v .0, n), omega (arith, v .9 .3, v .0, n)))
+    (omega (arith, v .6, v .0, n), (omega (arith, v .9 .0, v .0, n), omega (arith, v .9 .1, v .0, n), omega (arith, v .9 .2, v .0, n), omega (arith, v .9 .3, v .0, n)), few-slots (w .x .state .pool) (v .7))
 
 same-length : tie.Need-same-length Inv-loop μ-loop
 same-length c = search needs

@@ -25,7 +25,7 @@ put-events-requires c κs =
     let f = c .before .before .before .before .before .before .before .before .before .before .before .before .before .put-first in
     let n = c .before .before .before .before .before .before .before .before .new in
     let b = c .before .before .before .before .bytes in (
-      (omega (arith, f .ensures .1), fresh-sound (memories (now (a .pool)) (now (a .overflow))) (memories (n .last .0) (now (a .overflow))) (n .result) (n .ensures), omega arith),
+      (omega (arith, f .ensures .1), fresh-sound (memories (now (a .pool)) (now (a .overflow))) (memories (n .last .1 .0) (now (a .overflow))) (n .result) (n .ensures), omega arith),
       (
         (omega arith, omega arith, omega arith, omega arith),
         ((search needs, p .0 .1, omega (arith, bytes-few (now (a .file)) (now (b .result)) (b .ensures .0), p .0 .2)), p .1),
@@ -52,7 +52,7 @@ returns c =
     let n = c .before .before .before .before .before .before .before .before .before .before .before .before .before .before .before .before .before .new in
     let b = c .before .before .before .before .before .before .before .before .before .before .before .before .before .bytes in
     let e = c .before .before .before .before .before .before .before .before .put-events in
-    run-listed (memories (now (a .pool)) (now (a .overflow))) (memories (n .last .0) (now (a .overflow))) (n .result) (n .ensures) (now (a .destination)) (now (b .result)) (content (now (a .file)))
+    run-listed (memories (now (a .pool)) (now (a .overflow))) (memories (n .last .1 .0) (now (a .overflow))) (n .result) (n .ensures) (now (a .destination)) (now (b .result)) (content (now (a .file)))
     (output 0 (now (a .out))) (output (f .result) (f .last .0)) (output (e .result) (e .last .0)) (f .ensures .0) (b .ensures .0) (e .ensures)
 
 pub put-run-spec : {M : Type 1} → statement M

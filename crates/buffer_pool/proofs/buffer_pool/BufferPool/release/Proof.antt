@@ -1,5 +1,5 @@
 -- `buffer_pool::BufferPool::release` meets its contract. Assumes nothing.
-use Rattle.buffer_pool.proofs.CallLaws.{release-turned, release-through}
+use Rattle.buffer_pool.proofs.CallLaws.{own-worded, release-turned, release-through}
 use borrow.Author.Needs.{needs}
 use Rattle.buffer_pool.proofs.buffer_pool.BufferPool.release.Statement.{statement}
 use Rattle.buffer_pool.proofs.buffer_pool.BufferPool.release.Tie as tie
@@ -14,7 +14,7 @@ returns : tie.Need-returns
 returns c = search release-turned
 
 release-step-requires : tie.Need-release-step-requires
-release-step-requires c κs = search needs
+release-step-requires c κs = search (own-worded, needs)
 
 returns-2 : tie.Need-returns-2
 returns-2 c = search release-through

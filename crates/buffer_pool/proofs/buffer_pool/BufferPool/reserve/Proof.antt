@@ -1,5 +1,5 @@
 -- `buffer_pool::BufferPool::reserve` meets its contract. Assumes nothing.
-use Rattle.buffer_pool.proofs.CallLaws.{through-orderly, through-back, orderly-placeable, orderly-cursor, reserve-turned, settled-sum, reserve-settled, over-sum, reserve-over, past-kept, within-overflow, grown-sum, reserve-grown, reserve-short, decided-inside, decided-sum, reserve-done}
+use Rattle.buffer_pool.proofs.CallLaws.{through-orderly, through-worded, through-back, orderly-placeable, orderly-cursor, reserve-turned, settled-sum, reserve-settled, over-sum, reserve-over, past-kept, within-overflow, grown-sum, reserve-grown, reserve-short, decided-inside, decided-sum, reserve-done}
 use denote.Ref.{now}
 use Rattle.buffer_pool.specs.Moves.{memories}
 use borrow.Author.Needs.{needs}
@@ -22,7 +22,7 @@ returns : tie.Need-returns
 returns c = search reserve-turned
 
 is-settled-requires : tie.Need-is-settled-requires
-is-settled-requires c κs = search (through-back, needs)
+is-settled-requires c κs = search (through-worded, through-back, needs)
 
 offered-requires : tie.Need-offered-requires
 offered-requires c κs = search needs
@@ -61,7 +61,7 @@ returns-3 : tie.Need-returns-3
 returns-3 c = search reserve-over
 
 is-growing-requires : tie.Need-is-growing-requires
-is-growing-requires c κs = search (through-back, needs)
+is-growing-requires c κs = search (through-worded, through-back, needs)
 
 grow-requires : tie.Need-grow-requires
 grow-requires c κs =

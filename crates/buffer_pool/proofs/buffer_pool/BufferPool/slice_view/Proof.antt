@@ -1,6 +1,7 @@
 -- `buffer_pool::BufferPool::slice_view` meets its contract. Assumes nothing.
 use Rattle.buffer_pool.specs.Calls.{sliceView}
 use Rattle.buffer_pool.proofs.ViewLaws.{turned-view, unnamed-view, named-view}
+use Rattle.buffer_pool.proofs.CallLaws.{through-most}
 use borrow.Author.Needs.{needs}
 use Rattle.buffer_pool.proofs.buffer_pool.BufferPool.slice_view.Statement.{statement}
 use Rattle.buffer_pool.proofs.buffer_pool.BufferPool.slice_view.Tie as tie
@@ -16,7 +17,7 @@ unfolding sliceView
 returns c = search turned-view
 
 names-requires : tie.Need-names-requires
-names-requires c κs = search needs
+names-requires c κs = search (through-most, needs)
 
 hidden-requires-2 : tie.Need-hidden-requires-2
 hidden-requires-2 c κs = search needs
