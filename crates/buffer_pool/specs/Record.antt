@@ -36,7 +36,7 @@ after starts lengths (suc i) = getD starts i 0 + getD lengths i 0
 abbrev pub front : ℕ → ℕ → ℕ → PoolMode
 front f c l = Front (record { «back_start» = f; «byte_capacity» = c; len = l })
 
--- the record of a new pool with memories of these lengths (SPECIFICATION 2.1)
+-- the record of a new pool of w slots, with memories of these lengths (SPECIFICATION 2.1)
 abbrev pub newRecord : ℕ → ℕ → ℕ → BufferPool
 newRecord w capacity overflow =
     record {

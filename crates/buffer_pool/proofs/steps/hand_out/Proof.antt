@@ -56,7 +56,9 @@ add-t32 : tie.Need-add-t32
 add-t32 c = search needs
 
 returns : tie.Need-returns
-returns c = search handed-out
+returns c =
+    let g = c .before .before .before .before .before .before .before .before .before in
+    handed-out (g .before .args .p) (g .before .args .caller) _ _ _ (c .before .claim .ensures) _ (g .given-to .ensures)
 
 pub hand-out-spec : {M : Type 1} → statement M
 hand-out-spec =
