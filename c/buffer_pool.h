@@ -85,7 +85,8 @@ enum {
 
 /* The pool's record. buffer_pool_new makes it and the calls change it; its owner may read and copy it. It may be kept anywhere,
  * but its bytes are the pool's only knowledge of its memories: two copies of a record used on the same memories are two pools
- * that do not know of each other. Records of 8 and of 16 slots have one size; entries above the slot count are never read. */
+ * that do not know of each other. Records of 8 and of 16 slots have one size; entries above the slot count are never read, and a
+ * reserve may set their starts and lengths to 0. */
 typedef struct {
     uint64_t capacity;                        /* length of the pool memory */
     uint64_t overflow;                        /* length of the overflow */

@@ -264,6 +264,6 @@ place w r len =
     first (resetMoves (resets r) (ltb (r .cursor) (r .capacity)) (eqb (r .cursor) 0) (r .mode) r)
     (placeOf w mostChanges false (reset r .mode) (reset r) len)
 
--- cause 4, by 5.12: "If the overflow is used and frame length + `len` exceeds its length"
+-- cause 4, by 5.12: "If the overflow is used and frame length + `len` exceeds the length of the overflow"
 unfoldable pub tooLong : Decision → ℕ → Bool
 tooLong d len = d .heap && ltb (d .next .overflow) (d .next .cursor + len)

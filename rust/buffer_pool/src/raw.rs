@@ -35,7 +35,8 @@ pub struct Record {
     pub overflow: u64,
     /// How many slots the pool has, 8 or 16. Any other number is refused with 1.
     pub slots: usize,
-    /// The slice that was last taken in each slot. Entries above the slot count are never read.
+    /// The slice that was last taken in each slot. Entries above the slot count are never read;
+    /// a reserve may set their starts and lengths to 0.
     pub starts: [u32; MOST_SLOTS],
     pub lengths: [u32; MOST_SLOTS],
     pub serials: [u32; MOST_SLOTS],
