@@ -55,6 +55,7 @@ claim-requires c κs = search needs
 add-t32 : tie.Need-add-t32
 add-t32 c = search needs
 
+-- the law by itself: where the code is wrong, a search for it breaks off, and would not say which fact fails
 returns : tie.Need-returns
 returns c =
     let g = c .before .before .before .before .before .before .before .before .before in
