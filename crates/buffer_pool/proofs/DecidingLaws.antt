@@ -2,209 +2,232 @@
 -- where it returns. Assumes nothing.
 use mathlib.Core.Path.{_≡_, refl, sym, ap, _∙_, subst}
 use mathlib.Core.Bool.{Bool, true, false, not}
-use mathlib.Core.List.{List, [], _∷_, _++_, append-assoc, append-nil}
+use mathlib.Core.List.{List, [], _++_, append-assoc, append-nil}
 use Prim.Native.Nat.{ℕ, zero, suc, _+_, _-_, _≤_, _<_, max}
-use native.Mathlib.Nat.{add-zero}
+use native.Mathlib.Nat.{add-zero, le-refl}
 use native.Mathlib.Omega.{arith}
-use lib.Dec.{ltb}
-use borrow.Author.Tests.{lt-ltb, le-ltb, eq-eqb, ne-eqb}
+use mir.Val.{Fits}
+use mir.Syntax.{w64}
+use lib.Dec.{leb, ltb}
+use borrow.Author.Tests.{lt-ltb, le-ltb, eq-eqb, ne-eqb, leb-true, leb-false, ltb-true, ltb-false}
 use lib.Count.{leading-le}
-use Rattle.laws.proofs.Tests.{no-true}
+use Rattle.laws.specs.Tests.{pick}
+use Rattle.laws.proofs.Tests.{no-true, not-true, not-false}
 use Rattle.buffer_pool.specs.declared.buffer_pool.BufferPool.{BufferPool}
 use Rattle.buffer_pool.specs.declared.buffer_pool.PoolFront.{PoolFront}
 use Rattle.buffer_pool.specs.declared.buffer_pool.PoolMode.{PoolMode}
 use Rattle.buffer_pool.specs.declared.buffer_pool.PoolMode.the-variants.{Back, Front, Alloc}
-use Rattle.buffer_pool.specs.declared.moves.Moves.{Moves}
-use Rattle.buffer_pool.specs.declared.moves.MoveKind.the-variants as kind
+use Rattle.buffer_pool.specs.declared.numbers.Numbers.{Numbers}
+use Rattle.buffer_pool.specs.declared.route.Route.{Route}
 use Rattle.buffer_pool.specs.declared.placing.Cleared.{Cleared}
 use Rattle.buffer_pool.specs.declared.placing.ModeStep.{ModeStep}
 use Rattle.buffer_pool.specs.declared.placing.Decided.{Decided}
 use Rattle.buffer_pool.specs.Record.{framed}
-use Rattle.buffer_pool.specs.Moves.{Move}
-use Rattle.buffer_pool.specs.MoveList.{byteMove, moveOf, listed}
-use Rattle.buffer_pool.specs.Placing.{Decision, Layer, stay, change, finish, first, resolveOn, toAlloc, clearable, tailFits, tailCleared, headFits, headCleared, stays, backOn, frontCleared, leaveOn, frontOn, allocOn, placeOf, backLayer, frontLayer, allocLayer, layer, isAlloc, tooLong}
-use Rattle.buffer_pool.specs.Deciding.{frontLen, Placeable, Decides, clearedOn, layerOf, ahead, decisionOf, finished, following}
+use Rattle.buffer_pool.specs.Numbers.{numbersOf, plain, bare}
+use Rattle.buffer_pool.specs.Moves.{Move, within}
+use Rattle.buffer_pool.specs.Placing.{Decision, Layer, stay, change, finish, first, grows, resolveOn, toAlloc, clearable, tailFits, tailCleared, headFits, headCleared, stays, backOn, frontCleared, leaveOn, frontOn, allocOn, placeOf, backLayer, frontLayer, allocLayer, layer, isAlloc, tooLong}
+use Rattle.buffer_pool.specs.Deciding.{frontLen, Placeable, Reaches, Decides, clearedOn, step, layerOf, stepMoves, routeMoves, onward, decided, decisionOf, finished, finishedOn, following}
 use Rattle.buffer_pool.specs.Sound.{InMode}
 use Rattle.buffer_pool.proofs.Order.{last-held}
 use Rattle.buffer_pool.proofs.Parts.{ready-worded}
 use Rattle.buffer_pool.proofs.BackLaws.{clearable-is-full}
-use Rattle.buffer_pool.proofs.LayerLaws.{cleared-true, cleared-false}
+use Rattle.buffer_pool.proofs.LayerLaws.{within-same, within-empty, clearable-plain, head-plain, layer-still, cleared-true, cleared-false}
+use Rattle.buffer_pool.proofs.RouteLaws.{onward-moves, onward-reaches}
 use Rattle.buffer_pool.proofs.ReserveKept.{Fit, stays-not}
 
 -- ---- A frame in the overflow
 
-module _ (p : BufferPool) (entered : Bool) where
-  pub stays-entered : entered ≡ true → true ≡ stays (p .slots) entered p
+module _ (n : Numbers) where
+  pub stays-with-frame : 0 < n .cursor → true ≡ stays (n .slots) false (bare n)
   unfolding stays
-  stays-entered e = rw e
+  stays-with-frame h = rw (lt-ltb 0 (n .cursor) h)
 
-  module _ (n : entered ≡ false) where
-    pub stays-with-frame : 0 < p .cursor → true ≡ stays (p .slots) entered p
+  module _ (z : n .cursor ≤ 0) where
+    pub stays-without-back : n .«back_len» ≡ 0 → true ≡ stays (n .slots) false (bare n)
     unfolding stays
-    stays-with-frame h = rw (n, lt-ltb 0 (p .cursor) h)
+    stays-without-back h = rw (le-ltb 0 (n .cursor) z, eq-eqb (n .«back_len») 0 h)
 
-    module _ (z : p .cursor ≤ 0) where
-      pub stays-without-back : p .«back_len» ≡ 0 → true ≡ stays (p .slots) entered p
-      unfolding stays
-      stays-without-back h = rw (n, le-ltb 0 (p .cursor) z, eq-eqb (p .«back_len») 0 h)
+    pub stays-by-tail : (n .«back_len» ≡ 0 → ⊥) → (c : Bool) → c ≡ clearable (n .slots) (bare n) → not c ≡ stays (n .slots) false (bare n)
+    unfolding stays
+    stays-by-tail h c g = rw (le-ltb 0 (n .cursor) z, ne-eqb (n .«back_len») 0 h, g)
 
-      pub stays-by-tail : (p .«back_len» ≡ 0 → ⊥) → (c : Bool) → c ≡ clearable (p .slots) p → not c ≡ stays (p .slots) entered p
-      unfolding stays
-      stays-by-tail h c g = rw (n, le-ltb 0 (p .cursor) z, ne-eqb (p .«back_len») 0 h, g)
+module _ (n : Numbers) (b : Bool) (e : b ≡ stays (n .slots) false (bare n)) where
+  pub gives-way-clearable : b ≡ false → clearable (n .slots) (bare n) ≡ true
+  gives-way-clearable o = stays-not (n .slots) (bare n) false (sym e ∙ o) .1
 
-module _ (p : BufferPool) (entered : Bool) (b : Bool) (e : b ≡ stays (p .slots) entered p) where
-  pub gives-way-clearable : b ≡ false → clearable (p .slots) p ≡ true
-  gives-way-clearable n = stays-not (p .slots) p entered (sym e ∙ n) .1
+  pub gives-way-full : b ≡ false → n .«back_start» + n .«back_len» ≡ n .slots
+  gives-way-full o = clearable-is-full n (gives-way-clearable o)
 
-  pub gives-way-full : b ≡ false → p .«back_start» + p .«back_len» ≡ p .slots
-  gives-way-full n = clearable-is-full p (gives-way-clearable n)
+  module _ (S L : List ℕ) (len : ℕ) (m : ModeStep) where
+    stays-is : b ≡ stays (n .slots) false (plain n S L)
+    unfolding stays
+    stays-is = e ∙ rw (clearable-plain n S L)
 
-  module _ (moves : Moves) (len : ℕ) (m : ModeStep) where
-    pub alloc-keeps : p .mode ≡ Alloc → b ≡ true → layerOf m ≡ stay (p .mode) p (listed moves) → layerOf m ≡ ahead (listed moves) (allocLayer (p .slots) entered p len)
-    unfolding allocLayer allocOn ahead
-    alloc-keeps h t f = f ∙ rw (← e, t, h, append-nil (listed moves))
+    -- the overflow's frame is none of the pool's
+    module _ (z : n .«raw_len» ≡ 0) where
+      changes-to : (q : Numbers) → m ≡ step true false (n .«raw_offset») q → layerOf S L n m ≡ change false (plain q S L) []
+      changes-to q f = layer-still S L n m true q f (within-empty (n .«raw_offset») (n .«raw_len») (q .«raw_offset») z)
 
-    module _ (n : b ≡ false) (t : Cleared) (i : t ≡ clearedOn (tailFits (p .slots) p len) (tailCleared (p .slots) p) p) where
-      pub alloc-clears-tail : t .cleared ≡ true → layerOf m ≡ change false (t .pool) (listed moves) → layerOf m ≡ ahead (listed moves) (allocLayer (p .slots) entered p len)
-      unfolding allocLayer allocOn ahead
-      alloc-clears-tail k f =
-          let x = cleared-true (tailFits (p .slots) p len) (tailCleared (p .slots) p) p t i k in f ∙ rw (x .1, ← e, n, x .0, append-nil (listed moves))
+    keeps-it : m ≡ step false false (n .«raw_offset») n → layerOf S L n m ≡ stay (n .mode) (plain n S L) []
+    keeps-it f = layer-still S L n m false n f (within-same (n .«raw_offset») (n .«raw_len») (n .«raw_offset») refl)
 
-      module _ (j : t .cleared ≡ false) (u : Cleared) (v : u ≡ clearedOn (headFits (p .slots) p) (headCleared (p .slots) p) p) where
-        no-tail : tailFits (p .slots) p len ≡ false
-        no-tail = cleared-false (tailFits (p .slots) p len) (tailCleared (p .slots) p) p t i j
+    pub alloc-keeps : n .mode ≡ Alloc → b ≡ true → m ≡ step false false (n .«raw_offset») n
+        → layerOf S L n m ≡ allocLayer (n .slots) false (plain n S L) len
+    unfolding allocLayer allocOn
+    alloc-keeps h t f = keeps-it f ∙ rw (← stays-is, t, h)
 
-        pub alloc-clears-head : u .cleared ≡ true → layerOf m ≡ change false (u .pool) (listed moves) → layerOf m ≡ ahead (listed moves) (allocLayer (p .slots) entered p len)
-        unfolding allocLayer allocOn ahead
-        alloc-clears-head k f =
-            let x = cleared-true (headFits (p .slots) p) (headCleared (p .slots) p) p u v k in f ∙ rw (x .1, ← e, n, no-tail, x .0, append-nil (listed moves))
+    module _ (o : b ≡ false) (t : Cleared)
+        (i : t ≡ clearedOn (tailFits (n .slots) (plain n S L) len) (numbersOf (tailCleared (n .slots) (plain n S L))) n) where
+      pub alloc-clears-tail : n .«raw_len» ≡ 0 → t .cleared ≡ true → m ≡ step true false (n .«raw_offset») (t .numbers)
+          → layerOf S L n m ≡ allocLayer (n .slots) false (plain n S L) len
+      unfolding allocLayer allocOn
+      alloc-clears-tail z k f =
+          let x = cleared-true (tailFits (n .slots) (plain n S L) len) (numbersOf (tailCleared (n .slots) (plain n S L))) n t i k in
+          changes-to z (t .numbers) f ∙ rw (x .1, ← stays-is, o, x .0)
 
-        pub alloc-stays : p .mode ≡ Alloc → u .cleared ≡ false → layerOf m ≡ stay (p .mode) p (listed moves) → layerOf m ≡ ahead (listed moves) (allocLayer (p .slots) entered p len)
-        unfolding allocLayer allocOn ahead
+      module _ (j : t .cleared ≡ false) (u : Cleared)
+          (v : u ≡ clearedOn (headFits (n .slots) (plain n S [])) (numbersOf (headCleared (n .slots) (plain n S []))) n) where
+        no-tail : tailFits (n .slots) (plain n S L) len ≡ false
+        no-tail = cleared-false (tailFits (n .slots) (plain n S L) len) (numbersOf (tailCleared (n .slots) (plain n S L))) n t i j
+
+        pub alloc-clears-head : n .«raw_len» ≡ 0 → u .cleared ≡ true → m ≡ step true false (n .«raw_offset») (u .numbers)
+            → layerOf S L n m ≡ allocLayer (n .slots) false (plain n S L) len
+        unfolding allocLayer allocOn
+        alloc-clears-head z k f =
+            let x = cleared-true (headFits (n .slots) (plain n S L)) (numbersOf (headCleared (n .slots) (plain n S L))) n u (v ∙ head-plain n S L) k in
+            changes-to z (u .numbers) f ∙ rw (x .1, ← stays-is, o, no-tail, x .0)
+
+        pub alloc-stays : n .mode ≡ Alloc → u .cleared ≡ false → m ≡ step false false (n .«raw_offset») n
+            → layerOf S L n m ≡ allocLayer (n .slots) false (plain n S L) len
+        unfolding allocLayer allocOn
         alloc-stays h k f =
-            f ∙ rw (← e, n, no-tail, cleared-false (headFits (p .slots) p) (headCleared (p .slots) p) p u v k, h, append-nil (listed moves))
+            let x = cleared-false (headFits (n .slots) (plain n S L)) (numbersOf (headCleared (n .slots) (plain n S L))) n u (v ∙ head-plain n S L) k in
+            keeps-it f ∙ rw (← stays-is, o, no-tail, x, h)
 
 -- ---- One call of `reserve_`, by the mode
 
-module _ (p : BufferPool) (P : Placeable (p .slots) p) where
-  pub back-cursor : p .mode ≡ Back → p .cursor ≡ 0
+module _ (n : Numbers) (P : Placeable (n .slots) (bare n)) where
+  pub back-cursor : n .mode ≡ Back → n .cursor ≡ 0
   back-cursor h = P .no-cursor (rw h)
 
+  pub alloc-empty : n .mode ≡ Alloc → n .«raw_len» ≡ 0
+  alloc-empty h = P .no-len (rw h)
+
   module _ (f : PoolFront) where
-    pub front-cursor : p .mode ≡ Front f → p .cursor ≡ 0
+    pub front-cursor : n .mode ≡ Front f → n .cursor ≡ 0
     front-cursor h = P .no-cursor (rw h)
 
-    pub front-slots : p .mode ≡ Front f → f .len ≤ p .slots
+    pub front-slots : n .mode ≡ Front f → f .len ≤ n .slots
     front-slots h = rw h at (P .front-within)
 
-module _ (p : BufferPool) (entered : Bool) (moves : List Move) (len : ℕ) (l : Layer) where
-  pub layer-back : p .mode ≡ Back → l ≡ ahead moves (backLayer (p .slots) p len) → l ≡ ahead moves (layer (p .slots) entered (p .mode) p len)
+module _ (n : Numbers) (S L : List ℕ) (len : ℕ) (l : Layer) where
+  pub layer-back : n .mode ≡ Back → l ≡ backLayer (n .slots) (plain n S L) len → l ≡ layer (n .slots) false (n .mode) (plain n S L) len
   unfolding layer
-  layer-back h e = e ∙ ap (λ (mode : PoolMode). ahead moves (layer (p .slots) entered mode p len)) (sym h)
+  layer-back h e = e ∙ ap (λ (mode : PoolMode). layer (n .slots) false mode (plain n S L) len) (sym h)
 
-  pub layer-front : (f : PoolFront) → p .mode ≡ Front f → l ≡ ahead moves (frontLayer (p .slots) f p len) → l ≡ ahead moves (layer (p .slots) entered (p .mode) p len)
+  pub layer-front : (f : PoolFront) → n .mode ≡ Front f → l ≡ frontLayer (n .slots) f (plain n S L) len → l ≡ layer (n .slots) false (n .mode) (plain n S L) len
   unfolding layer
-  layer-front f h e = e ∙ ap (λ (mode : PoolMode). ahead moves (layer (p .slots) entered mode p len)) (sym h)
+  layer-front f h e = e ∙ ap (λ (mode : PoolMode). layer (n .slots) false mode (plain n S L) len) (sym h)
 
-  pub layer-alloc : p .mode ≡ Alloc → l ≡ ahead moves (allocLayer (p .slots) entered p len) → l ≡ ahead moves (layer (p .slots) entered (p .mode) p len)
+  pub layer-alloc : n .mode ≡ Alloc → l ≡ allocLayer (n .slots) false (plain n S L) len → l ≡ layer (n .slots) false (n .mode) (plain n S L) len
   unfolding layer
-  layer-alloc h e = e ∙ ap (λ (mode : PoolMode). ahead moves (layer (p .slots) entered mode p len)) (sym h)
+  layer-alloc h e = e ∙ ap (λ (mode : PoolMode). layer (n .slots) false mode (plain n S L) len) (sym h)
 
 -- ---- The reservation
 
-finished-as : (p : BufferPool) (len : ℕ) (mode : PoolMode) → p .mode ≡ mode → finish mode p [] len ≡ finished p len
-unfolding finished
-finished-as p len mode h = ap (λ (x : PoolMode). finish x p [] len) (sym h)
+module _ (n : Numbers) (g : Route) (changes len : ℕ) where
+  pub finished-in-pool : (q : Numbers) → q ≡ numbersOf (framed (bare n) (n .mode) (n .«raw_offset») (n .«raw_len») (n .kept) (n .cursor) len)
+      → decided false q changes (n .kept) g ≡ finishedOn Back n g changes len
+  unfolding finishedOn
+  finished-in-pool q e = rw e
 
--- in the pool, where the mode is not A
-pub back-pooled : (p : BufferPool) → p .mode ≡ Back → isAlloc (p .mode) ≡ false
-back-pooled p h = rw h
+  module _ (b : Bool) (e : b ≡ leb (n .cursor + len + 0) (n .overflow)) where
+    pub overflow-short : not b ≡ true → decided true n changes (n .kept) g ≡ finishedOn Alloc n g changes len
+    unfolding finishedOn
+    overflow-short h = rw (← e, not-true b h)
 
-pub front-pooled : (p : BufferPool) (f : PoolFront) → p .mode ≡ Front f → isAlloc (p .mode) ≡ false
-front-pooled p f h = rw h
+    pub overflow-fits : not b ≡ false → (end : ℕ) → end ≡ max (n .kept) (n .cursor + len) → (q : Numbers)
+        → q ≡ numbersOf (framed (bare n) Alloc (n .«raw_offset») (n .«raw_len») end (n .cursor) len)
+        → decided false q changes (n .kept) g ≡ finishedOn Alloc n g changes len
+    unfolding finishedOn
+    overflow-fits h end k q f = rw (f, k, ← e, not-false b h)
 
-module _ (p : BufferPool) (moves : Moves) (changes len : ℕ) (q : BufferPool) where
-  abbrev inPool : Decided
-  inPool = record { «too_long» = false; pool = q; moves = moves; changes = changes; heap = false }
+    pub overflow-end : not b ≡ false → Fits w64 (n .overflow) → Fits w64 (n .cursor + len)
+    overflow-end h a = record { fits = omega (arith, a .fits, leb-true (n .cursor + len + 0) (n .overflow) (sym e ∙ not-false b h)) }
 
-  pooled-as : (mode : PoolMode) → isAlloc mode ≡ false → q ≡ framed p mode (p .«raw_offset») (p .«raw_len») (p .kept) (p .cursor) len
-      → Decides inPool (following (listed moves) changes (finish mode p [] len)) len
+  module _ (c : Decided) where
+    pub finish-back : n .mode ≡ Back → c ≡ finishedOn Back n g changes len → c ≡ finishedOn (n .mode) n g changes len
+    finish-back h e = e ∙ ap (λ (x : PoolMode). finishedOn x n g changes len) (sym h)
+
+    pub finish-front : (f : PoolFront) → n .mode ≡ Front f → c ≡ finishedOn Back n g changes len → c ≡ finishedOn (n .mode) n g changes len
+    unfolding finishedOn
+    finish-front f h e = e ∙ ap (λ (x : PoolMode). finishedOn x n g changes len) (sym h)
+
+    pub finish-alloc : n .mode ≡ Alloc → c ≡ finishedOn Alloc n g changes len → c ≡ finishedOn (n .mode) n g changes len
+    finish-alloc h e = e ∙ ap (λ (x : PoolMode). finishedOn x n g changes len) (sym h)
+
+-- what the code finishes with is the reservation made where the frame lies
+module _ (n : Numbers) (S L : List ℕ) (g : Route) (changes len : ℕ) where
+  grown : (kept end : ℕ) → grows (ltb kept (max kept end)) kept (max kept end) ≡ grows (ltb kept end) kept end
+  grown kept end = go (ltb kept end) refl
+    where
+      go : (b : Bool) → ltb kept end ≡ b → grows (ltb kept (max kept end)) kept (max kept end) ≡ grows b kept end
+      go true e = let z : max kept end ≡ end = omega (arith, ltb-true kept end e) in rw (z, e) refl
+      go false e = let z : max kept end ≡ kept = omega (arith, ltb-false kept end e) in rw (z, le-ltb kept kept (le-refl kept)) refl
+
+  overflow-decides : (b : Bool) → leb (n .cursor + len + 0) (n .overflow) ≡ b → n .mode ≡ Alloc
+      → Decides S L
+      (pick b (decided false (numbersOf (framed (bare n) Alloc (n .«raw_offset») (n .«raw_len») (max (n .kept) (n .cursor + len)) (n .cursor) len)) changes (n .kept) g)
+      (decided true n changes (n .kept) g))
+      (following (routeMoves g) changes (finish Alloc (plain n S L) [] len)) len
   unfolding tooLong following decisionOf
-  pooled-as Back z e = record { too-long = refl; decision = λ h. rw (e, append-nil (listed moves), add-zero changes) }
-  pooled-as (Front f) z e = record { too-long = refl; decision = λ h. rw (e, append-nil (listed moves), add-zero changes) }
-  pooled-as Alloc z e = absurd (no-true (sym z))
+  overflow-decides true e h =
+      record {
+        too-long = sym (le-ltb (n .overflow) (n .cursor + len) (omega (arith, leb-true (n .cursor + len + 0) (n .overflow) e)));
+        decision = λ _. rw (grown (n .kept) (n .cursor + len), add-zero changes);
+      }
+  overflow-decides false e h =
+      let l = lt-ltb (n .overflow) (n .cursor + len) (omega (arith, leb-false (n .cursor + len + 0) (n .overflow) e)) in
+      record { too-long = sym l; decision = λ q. absurd (no-true (sym q ∙ l)) }
 
-  pub finished-in-pool : isAlloc (p .mode) ≡ false → q ≡ framed p (p .mode) (p .«raw_offset») (p .«raw_len») (p .kept) (p .cursor) len
-      → Decides inPool (following (listed moves) changes (finished p len)) len
-  finished-in-pool z e =
-      subst (λ (d : Decision). Decides inPool (following (listed moves) changes d) len) (finished-as p len (p .mode) refl) (pooled-as (p .mode) z e)
+  finishes : (mode : PoolMode) → n .mode ≡ mode → Decides S L (finishedOn mode n g changes len) (following (routeMoves g) changes (finish mode (plain n S L) [] len)) len
+  unfolding tooLong following decisionOf finishedOn
+  finishes Back h =
+      record { too-long = refl; decision = λ _. rw (h, le-ltb (n .kept) (n .kept) (le-refl (n .kept)), append-nil (routeMoves g), add-zero changes) }
+  finishes (Front f) h =
+      record { too-long = refl; decision = λ _. rw (h, le-ltb (n .kept) (n .kept) (le-refl (n .kept)), append-nil (routeMoves g), add-zero changes) }
+  finishes Alloc h = overflow-decides (leb (n .cursor + len + 0) (n .overflow)) refl h
 
--- in the overflow
-module _ (p : BufferPool) (moves : Moves) (changes len : ℕ) (a : p .mode ≡ Alloc) where
-  in-overflow : (c : Decided) → Decides c (following (listed moves) changes (finish Alloc p [] len)) len → Decides c (following (listed moves) changes (finished p len)) len
-  in-overflow c D = subst (λ (d : Decision). Decides c (following (listed moves) changes d) len) (finished-as p len Alloc a) D
-
-  refused-long : p .overflow < p .cursor + len
-      → Decides (record { «too_long» = true; pool = p; moves = moves; changes = changes; heap = true }) (following (listed moves) changes (finished p len)) len
-  unfolding tooLong following
-  refused-long h =
-      let l = lt-ltb (p .overflow) (p .cursor + len) h in
-      in-overflow _ (record { too-long = sym l; decision = λ e. absurd (no-true (sym e ∙ l)) })
-
-  pub overflow-past : p .overflow < p .cursor
-      → Decides (record { «too_long» = true; pool = p; moves = moves; changes = changes; heap = true }) (following (listed moves) changes (finished p len)) len
-  overflow-past h = refused-long (omega arith)
-
-  module _ (h : p .cursor ≤ p .overflow) where
-    pub overflow-short : p .overflow - p .cursor < len
-        → Decides (record { «too_long» = true; pool = p; moves = moves; changes = changes; heap = true }) (following (listed moves) changes (finished p len)) len
-    overflow-short k = refused-long (omega arith)
-
-    module _ (k : len ≤ p .overflow - p .cursor) (q : BufferPool) where
-      not-long : ltb (p .overflow) (p .cursor + len) ≡ false
-      not-long = le-ltb (p .overflow) (p .cursor + len) (omega arith)
-
-      pub overflow-keeps : p .cursor + len ≤ p .kept → q ≡ framed p Alloc (p .«raw_offset») (p .«raw_len») (p .kept) (p .cursor) len
-          → Decides (record { «too_long» = false; pool = q; moves = moves; changes = changes; heap = true }) (following (listed moves) changes (finished p len)) len
-      unfolding tooLong following decisionOf
-      overflow-keeps l e =
-          let z : max (p .kept) (p .cursor + len) ≡ p .kept = omega arith in
-          in-overflow _
-          (record { too-long = sym not-long; decision = λ _. rw (e, z, le-ltb (p .kept) (p .cursor + len) l, append-nil (listed moves), add-zero changes) })
-
-      pub overflow-grows : p .kept < p .cursor + len → q ≡ framed p Alloc (p .«raw_offset») (p .«raw_len») (p .cursor + len) (p .cursor) len
-          → (out : Moves) → listed out ≡ listed moves ++ (moveOf (byteMove kind.Grow (p .kept) (p .cursor + len) 0) ∷ [])
-          → Decides (record { «too_long» = false; pool = q; moves = out; changes = changes; heap = true }) (following (listed moves) changes (finished p len)) len
-      unfolding tooLong following decisionOf moveOf
-      overflow-grows l e out o =
-          let z : max (p .kept) (p .cursor + len) ≡ p .cursor + len = omega arith in
-          in-overflow _
-          (record { too-long = sym not-long; decision = λ _. rw (e, z, o, lt-ltb (p .kept) (p .cursor + len) l, add-zero changes) })
+  pub finish-decides : (c : Decided) → c ≡ finishedOn (n .mode) n g changes len → Decides S L c (following (routeMoves g) changes (finished (plain n S L) len)) len
+  unfolding finished
+  finish-decides c e = rw e (finishes (n .mode) refl)
 
 -- ---- The recursion
 
 -- every record on the way is placeable again
 module _ (w : ℕ) (p : BufferPool) (P : Placeable w p) where
   pub placeable-as : (q : BufferPool) → q .slots ≡ p .slots → q .live ≡ p .live → q .«back_start» + q .«back_len» ≤ w → frontLen (q .mode) ≤ w
-      → (isAlloc (q .mode) ≡ false → q .cursor ≡ 0) → Placeable w q
-  placeable-as q s l b f c =
+      → (isAlloc (q .mode) ≡ false → q .cursor ≡ 0) → (isAlloc (q .mode) ≡ true → q .«raw_len» ≡ 0) → Placeable w q
+  placeable-as q s l b f c z =
       record {
         count-is = s ∙ P .count-is;
         worded = record { most = rw s (P .worded .most); word = rw (s, l) (P .worded .word) };
         back-within = b;
         front-within = f;
         no-cursor = c;
+        no-len = z;
       }
 
   out-placeable : Placeable w (toAlloc p)
-  out-placeable = placeable-as (toAlloc p) refl refl (P .back-within) (omega arith) (λ e. absurd (no-true (sym e)))
+  out-placeable = placeable-as (toAlloc p) refl refl (P .back-within) (omega arith) (λ e. absurd (no-true (sym e))) (λ _. refl)
 
   tail-placeable : p .cursor ≡ 0 → Placeable w (tailCleared w p)
-  tail-placeable z = placeable-as (tailCleared w p) refl refl (omega (arith, P .back-within)) (omega arith) (λ _. z)
+  tail-placeable z = placeable-as (tailCleared w p) refl refl (omega (arith, P .back-within)) (omega arith) (λ _. z) (λ e. absurd (no-true e))
 
   head-placeable : p .cursor ≡ 0 → Placeable w (headCleared w p)
   head-placeable z =
       placeable-as (headCleared w p) refl refl (omega (arith, P .back-within, leading-le w (p .live))) (omega arith) (λ _. z)
+      (λ e. absurd (no-true e))
 
   leave-placeable : (c t : Bool) (moves : List Move) → p .cursor ≡ 0 → Placeable w (leaveOn c t w p moves .pool)
   unfolding leaveOn
@@ -235,6 +258,7 @@ front-placeable w p P f len a d g h z = go a d g
     cleared : Placeable w (frontCleared w p f)
     cleared =
         placeable-as w p P (frontCleared w p f) refl refl (P .back-within) (omega (arith, last-held w (p .live) (f .len) h .within)) (λ _. z)
+        (λ e. absurd (no-true e))
 
     go : (a d g : Bool) → Placeable w (frontOn a d g w p f len .pool)
     go true d g = P
@@ -260,6 +284,7 @@ fit-placeable w r T =
       back-within = R .back-within;
       front-within = slots (r .mode) (T .1);
       no-cursor = cursor (r .mode) (T .1);
+      no-len = empty (r .mode) (T .1);
     }
   where
     slots : (mode : PoolMode) → InMode w mode r 0 → frontLen mode ≤ w
@@ -272,105 +297,222 @@ fit-placeable w r T =
     cursor (Front f) I e = I .no-cursor
     cursor Alloc I e = absurd (no-true (sym e))
 
+    empty : (mode : PoolMode) → InMode w mode r 0 → isAlloc mode ≡ true → r .«raw_len» ≡ 0
+    empty Back I e = absurd (no-true e)
+    empty (Front f) I e = absurd (no-true e)
+    empty Alloc I e = I .no-len
+
 -- the reservation after moves
 finish-moves : (mode : PoolMode) (r : BufferPool) (moves : List Move) (len : ℕ) → finish mode r moves len ≡ first moves (finish mode r [] len)
 finish-moves Back r moves len = rw (append-nil moves)
 finish-moves (Front f) r moves len = rw (append-nil moves)
 finish-moves Alloc r moves len = refl
 
-pub step-placeable : (p : BufferPool) (entered : Bool) (moves : Moves) (len : ℕ) (s : ModeStep)
-    → layerOf s ≡ ahead (listed moves) (layer (p .slots) entered (p .mode) p len) → Placeable (p .slots) p → Placeable (s .pool .slots) (s .pool)
-unfolding layerOf ahead
-step-placeable p entered moves len s e P =
-    let Q : Placeable (p .slots) (s .pool) =
-    subst (Placeable (p .slots)) (sym (ap (λ (l : Layer). l .pool) e)) (layer-placeable (p .slots) p P entered len (p .mode) refl) in
-    subst (λ (w : ℕ). Placeable w (s .pool)) (sym (Q .count-is)) Q
+-- placing reads no array
+pub placeable-bare : (w : ℕ) (n : Numbers) (S L : List ℕ) → Placeable w (plain n S L) → Placeable w (bare n)
+placeable-bare w n S L P =
+    record {
+      count-is = P .count-is;
+      worded = record { most = P .worded .most; word = P .worded .word };
+      back-within = P .back-within;
+      front-within = P .front-within;
+      no-cursor = P .no-cursor;
+      no-len = P .no-len;
+    }
 
--- a step keeps the count
-step-slots : (p : BufferPool) (entered : Bool) (moves : Moves) (len : ℕ) (s : ModeStep)
-    → layerOf s ≡ ahead (listed moves) (layer (p .slots) entered (p .mode) p len) → Placeable (p .slots) p → s .pool .slots ≡ p .slots
-unfolding layerOf ahead
-step-slots p entered moves len s e P = ap (λ (l : Layer). l .pool .slots) e ∙ layer-placeable (p .slots) p P entered len (p .mode) refl .count-is
+placeable-plain : (w : ℕ) (n : Numbers) (S L : List ℕ) → Placeable w (bare n) → Placeable w (plain n S L)
+placeable-plain w n S L P =
+    record {
+      count-is = P .count-is;
+      worded = record { most = P .worded .most; word = P .worded .word };
+      back-within = P .back-within;
+      front-within = P .front-within;
+      no-cursor = P .no-cursor;
+      no-len = P .no-len;
+    }
+
+-- a step that does not go out keeps the frame's length, and one that does is in A
+pub record Goes (r : BufferPool) (l : Layer) : Type 0 where
+  pub length-is : l .entered ≡ false → l .pool .«raw_len» ≡ r .«raw_len»
+  pub mode-is : l .entered ≡ true → l .pool .mode ≡ Alloc
+
+goes-out : (r : BufferPool) (q : BufferPool) (moves : List Move) → q .mode ≡ Alloc → Goes r (change true q moves)
+goes-out r q moves m = record { length-is = λ e. absurd (no-true (sym e)); mode-is = λ _. m }
+
+goes-on : (r : BufferPool) (again : Bool) (mode : PoolMode) (q : BufferPool) (moves : List Move) → q .«raw_len» ≡ r .«raw_len»
+    → Goes r (record { again = again; entered = false; mode = mode; pool = q; moves = moves })
+goes-on r again mode q moves l = record { length-is = λ _. l; mode-is = λ e. absurd (no-true e) }
+
+module _ (w : ℕ) (r : BufferPool) where
+  leave-goes : (q : BufferPool) (moves : List Move) (c t : Bool) → q .«raw_len» ≡ r .«raw_len» → Goes r (leaveOn c t w q moves)
+  unfolding leaveOn
+  leave-goes q moves true true l = goes-on r true _ (tailCleared w q) _ l
+  leave-goes q moves true false l = goes-out r (toAlloc q) _ refl
+  leave-goes q moves false t l = goes-out r (toAlloc q) _ refl
+
+  back-goes : (a c t h : Bool) → Goes r (backOn a c t h w r)
+  unfolding backOn
+  back-goes true c t h = goes-on r false Back r [] refl
+  back-goes false false t h = goes-out r (toAlloc r) _ refl
+  back-goes false true true h = goes-on r false Back (tailCleared w r) _ refl
+  back-goes false true false true = goes-on r true _ (headCleared w r) _ refl
+  back-goes false true false false = goes-out r (toAlloc r) _ refl
+
+  front-goes : (f : PoolFront) (len : ℕ) (a d g : Bool) → Goes r (frontOn a d g w r f len)
+  unfolding frontOn
+  front-goes f len true d g = goes-on r false (Front f) r [] refl
+  front-goes f len false true true = goes-on r false _ (frontCleared w r f) _ refl
+  front-goes f len false true false =
+      leave-goes (frontCleared w r f) _ (clearable w (frontCleared w r f)) (tailFits w (frontCleared w r f) len) refl
+  front-goes f len false false g = leave-goes r [] (clearable w r) (tailFits w r len) refl
+
+  alloc-goes : (a t h : Bool) → Goes r (allocOn a t h w r)
+  unfolding allocOn
+  alloc-goes true t h = goes-on r false Alloc r [] refl
+  alloc-goes false true h = goes-on r true _ (tailCleared w r) _ refl
+  alloc-goes false false true = goes-on r true _ (headCleared w r) _ refl
+  alloc-goes false false false = goes-on r false Alloc r [] refl
+
+  layer-goes : (len : ℕ) (mode : PoolMode) → Goes r (layer w false mode r len)
+  unfolding layer backLayer frontLayer allocLayer
+  layer-goes len Back = back-goes _ _ _ _
+  layer-goes len (Front f) = front-goes f len _ _ _
+  layer-goes len Alloc = alloc-goes _ _ _
 
 following-first : (before moves : List Move) (changes : ℕ) (d : Decision) → following (before ++ moves) changes d ≡ following before changes (first moves d)
 unfolding following
 following-first before moves changes d = rw append-assoc
 
-module _ (p : BufferPool) (entered : Bool) (moves : Moves) (changes left len : ℕ) (c : Decided) where
-  pub no-change-left : left ≡ 0 → Decides c (following (listed moves) changes (finished p len)) len
-      → Decides c (following (listed moves) changes (placeOf (p .slots) left entered (p .mode) p len)) len
+-- the layer's parts, as the code's step has them
+module _ (n : Numbers) (S L : List ℕ) (len : ℕ) (s : ModeStep) (e : layerOf S L n s ≡ layer (n .slots) false (n .mode) (plain n S L) len) where
+  abbrev l : Layer
+  l = layer (n .slots) false (n .mode) (plain n S L) len
+
+  moves-is : stepMoves n s ≡ l .moves
+  unfolding layerOf
+  moves-is = ap (λ (x : Layer). x .moves) e
+
+  again-is : s .again ≡ l .again
+  unfolding layerOf
+  again-is = ap (λ (x : Layer). x .again) e
+
+  entered-is : s .entered ≡ l .entered
+  unfolding layerOf
+  entered-is = ap (λ (x : Layer). x .entered) e
+
+  pool-is : plain (s .numbers) S L ≡ l .pool
+  unfolding layerOf
+  pool-is = ap (λ (x : Layer). x .pool) e
+
+  mode-is : s .numbers .mode ≡ l .mode
+  unfolding layerOf
+  mode-is = ap (λ (x : Layer). x .mode) e
+
+  module _ (P : Placeable (n .slots) (bare n)) where
+    next : Placeable (n .slots) (plain (s .numbers) S L)
+    next =
+        subst (Placeable (n .slots)) (sym pool-is)
+        (layer-placeable (n .slots) (plain n S L) (placeable-plain (n .slots) n S L P) false len (n .mode) refl)
+
+    slots-is : s .numbers .slots ≡ n .slots
+    slots-is = next .count-is
+
+    pub step-placeable : Placeable (s .numbers .slots) (bare (s .numbers))
+    step-placeable = subst (λ (w : ℕ). Placeable w (bare (s .numbers))) (sym slots-is) (placeable-bare (n .slots) (s .numbers) S L next)
+
+  pub step-alloc : s .entered ≡ true → s .numbers .mode ≡ Alloc
+  step-alloc t = ap (λ (r : BufferPool). r .mode) pool-is ∙ layer-goes (n .slots) (plain n S L) len (n .mode) .mode-is (sym entered-is ∙ t)
+
+  -- the way after the step
+  module _ (g : Route) (changes : ℕ) (entered : Bool) (K : entered ≡ false → changes < 2 → Reaches g changes n) (u : entered ≡ false) (k : changes < 2)
+      (on : Route) (i : on ≡ onward g changes (s .via) (s .entered) (pick (s .entered) (s .via) (s .numbers .«raw_offset»))) where
+    on-moves : routeMoves on ≡ routeMoves g ++ l .moves
+    on-moves = onward-moves g changes n (K u k) s on i ∙ ap (λ (x : List Move). routeMoves g ++ x) moves-is
+
+    pub step-reaches : s .entered ≡ false → changes + 1 < 2 → Reaches on (changes + 1) (s .numbers)
+    step-reaches t j =
+        onward-reaches g changes n (K u k) s (omega (arith, j)) t
+        (ap (λ (r : BufferPool). r .«raw_len») pool-is ∙ layer-goes (n .slots) (plain n S L) len (n .mode) .length-is (sym entered-is ∙ t)) on i
+
+module _ (n : Numbers) (S L : List ℕ) (entered : Bool) (g : Route) (changes left len : ℕ) (c : Decided) where
+  abbrev Whole : Type 0
+  Whole = Decides S L c (following (routeMoves g) changes (placeOf (n .slots) left entered (n .mode) (plain n S L) len)) len
+
+  pub no-change-left : left ≡ 0 → c ≡ finishedOn (n .mode) n g changes len → Whole
   unfolding placeOf finished
-  no-change-left z D = rw z D
+  no-change-left z e = rw z (finish-decides n S L g changes len c e)
 
-  module _ (n : left ≡ 0 → ⊥) (s : ModeStep) (e : layerOf s ≡ ahead (listed moves) (layer (p .slots) entered (p .mode) p len)) where
-    -- the layer's parts, as the code's step has them
-    abbrev l : Layer
-    l = layer (p .slots) entered (p .mode) p len
+  -- A keeps a frame that entered it just now
+  pub just-entered : entered ≡ true → (entered ≡ true → n .mode ≡ Alloc) → c ≡ finishedOn (n .mode) n g changes len → Whole
+  unfolding placeOf finished layer allocLayer allocOn stays
+  just-entered t h e =
+      subst (λ (d : Decision). Decides S L c (following (routeMoves g) changes d) len) (go left (n .mode) (h t)) (finish-decides n S L g changes len c e)
+    where
+      go : (k : ℕ) (mode : PoolMode) → mode ≡ Alloc → finish mode (plain n S L) [] len ≡ placeOf (n .slots) k entered mode (plain n S L) len
+      go zero mode a = refl
+      go (suc k) mode a = rw (a, t) refl
 
-    moves-is : listed (s .moves) ≡ listed moves ++ l .moves
-    unfolding layerOf ahead
-    moves-is = ap (λ (x : Layer). x .moves) e
+  module _ (o : left ≡ 0 → ⊥) (T : changes + left ≡ 2) (K : entered ≡ false → changes < 2 → Reaches g changes n) (u : entered ≡ false)
+      (s : ModeStep) (e : layerOf S L n s ≡ layer (n .slots) false (n .mode) (plain n S L) len)
+      (on : Route) (i : on ≡ onward g changes (s .via) (s .entered) (pick (s .entered) (s .via) (s .numbers .«raw_offset»))) where
+    abbrev m : Layer
+    m = layer (n .slots) false (n .mode) (plain n S L) len
 
-    again-is : s .again ≡ l .again
-    unfolding layerOf ahead
-    again-is = ap (λ (x : Layer). x .again) e
-
-    entered-is : s .entered ≡ l .entered
-    unfolding layerOf ahead
-    entered-is = ap (λ (x : Layer). x .entered) e
-
-    pool-is : s .pool ≡ l .pool
-    unfolding layerOf ahead
-    pool-is = ap (λ (x : Layer). x .pool) e
-
-    mode-is : s .pool .mode ≡ l .mode
-    unfolding layerOf ahead
-    mode-is = ap (λ (x : Layer). x .mode) e
+    way : routeMoves on ≡ routeMoves g ++ m .moves
+    way = on-moves n S L len s e g changes entered K u (omega (arith, T, o)) on i
 
     -- one layer of the definition
-    unfolds : (again : Bool) → l .again ≡ again → (k : ℕ) → left ≡ suc k
-        → placeOf (p .slots) left entered (p .mode) p len ≡ resolveOn (λ e q. placeOf (p .slots) k e (q .mode) q len) again l len
+    unfolds : (again : Bool) → m .again ≡ again → (k : ℕ) → left ≡ suc k
+        → placeOf (n .slots) left entered (n .mode) (plain n S L) len ≡ resolveOn (λ e q. placeOf (n .slots) k e (q .mode) q len) again m len
     unfolding placeOf
-    unfolds again t k z = rw (z, t)
+    unfolds again t k z = rw (z, u, t)
 
     follows : (k : ℕ) → left ≡ suc k → s .again ≡ true
-        → following (listed (s .moves)) (changes + 1) (placeOf (p .slots) (left - 1) (s .entered) (s .pool .mode) (s .pool) len)
-        ≡ following (listed moves) changes (placeOf (p .slots) left entered (p .mode) p len)
+        → following (routeMoves on) (changes + 1) (placeOf (n .slots) (left - 1) (s .entered) (s .numbers .mode) (plain (s .numbers) S L) len)
+        ≡ following (routeMoves g) changes (placeOf (n .slots) left entered (n .mode) (plain n S L) len)
     unfolding following
     follows k z t =
-        let d : Decision = placeOf (p .slots) k (l .entered) (l .pool .mode) (l .pool) len in
-        let i : changes + 1 + d .changes ≡ changes + suc (d .changes) = omega arith in
+        let d : Decision = placeOf (n .slots) k (m .entered) (m .pool .mode) (m .pool) len in
         let j : left - 1 ≡ k = omega arith in
-        rw (unfolds true (sym again-is ∙ t) k z, j, moves-is, entered-is, pool-is, i, append-assoc (listed moves) (l .moves) (d .moves))
+        ap (λ (x : ℕ). following (routeMoves on) (changes + 1) (placeOf (n .slots) x (s .entered) (s .numbers .mode) (plain (s .numbers) S L) len)) j
+        ∙ ap (λ (x : Bool). following (routeMoves on) (changes + 1) (placeOf (n .slots) k x (s .numbers .mode) (plain (s .numbers) S L) len)) (entered-is n S L len s e)
+        ∙ ap (λ (r : BufferPool). following (routeMoves on) (changes + 1) (placeOf (n .slots) k (m .entered) (r .mode) r len)) (pool-is n S L len s e)
+        ∙ ap (λ (x : List Move). following x (changes + 1) d) way
+        ∙ one-more (routeMoves g) (m .moves) d
+        ∙ ap (following (routeMoves g) changes) (sym (unfolds true (sym (again-is n S L len s e) ∙ t) k z))
+      where
+        one-more : (before moves : List Move) (d : Decision)
+            → following (before ++ moves) (changes + 1) d
+            ≡ following before changes (record { next = d .next; changes = suc (d .changes); moves = moves ++ d .moves; heap = d .heap })
+        one-more before moves d = let i : changes + 1 + d .changes ≡ changes + suc (d .changes) = omega arith in rw (i, append-assoc before moves (d .moves))
 
-    pub places-again : Placeable (p .slots) p → s .again ≡ true
-        → Decides c (following (listed (s .moves)) (changes + 1) (placeOf (s .pool .slots) (left - 1) (s .entered) (s .pool .mode) (s .pool) len)) len
-        → Decides c (following (listed moves) changes (placeOf (p .slots) left entered (p .mode) p len)) len
+    pub places-again : Placeable (n .slots) (bare n) → s .again ≡ true
+        → Decides S L c (following (routeMoves on) (changes + 1) (placeOf (s .numbers .slots) (left - 1) (s .entered) (s .numbers .mode) (plain (s .numbers) S L) len)) len
+        → Whole
     places-again P t D = go left refl
       where
-        go : (k : ℕ) → left ≡ k → Decides c (following (listed moves) changes (placeOf (p .slots) left entered (p .mode) p len)) len
-        go zero z = absurd (n z)
+        go : (k : ℕ) → left ≡ k → Whole
+        go zero z = absurd (o z)
         go (suc k) z =
-            subst (λ (d : Decision). Decides c d len)
-            (ap (λ (w : ℕ). following (listed (s .moves)) (changes + 1) (placeOf w (left - 1) (s .entered) (s .pool .mode) (s .pool) len))
-            (step-slots p entered moves len s e P)
+            subst (λ (d : Decision). Decides S L c d len)
+            (ap (λ (w : ℕ). following (routeMoves on) (changes + 1) (placeOf w (left - 1) (s .entered) (s .numbers .mode) (plain (s .numbers) S L) len)) (slots-is n S L len s e P)
             ∙ follows k z t)
             D
 
     stops : (k : ℕ) → left ≡ suc k → s .again ≡ false
-        → following (listed (s .moves)) changes (finished (s .pool) len) ≡ following (listed moves) changes (placeOf (p .slots) left entered (p .mode) p len)
+        → following (routeMoves on) changes (finished (plain (s .numbers) S L) len)
+        ≡ following (routeMoves g) changes (placeOf (n .slots) left entered (n .mode) (plain n S L) len)
     unfolding finished
     stops k z t =
-        ap (λ (x : List Move). following x changes (finish (s .pool .mode) (s .pool) [] len)) moves-is
-        ∙ ap (λ (x : BufferPool). following (listed moves ++ l .moves) changes (finish (s .pool .mode) x [] len)) pool-is
-        ∙ ap (λ (x : PoolMode). following (listed moves ++ l .moves) changes (finish x (l .pool) [] len)) mode-is
-        ∙ following-first (listed moves) (l .moves) changes (finish (l .mode) (l .pool) [] len)
-        ∙ ap (following (listed moves) changes) (sym (finish-moves (l .mode) (l .pool) (l .moves) len) ∙ sym (unfolds false (sym again-is ∙ t) k z))
+        ap (λ (x : List Move). following x changes (finish (s .numbers .mode) (plain (s .numbers) S L) [] len)) way
+        ∙ ap (λ (x : BufferPool). following (routeMoves g ++ m .moves) changes (finish (s .numbers .mode) x [] len)) (pool-is n S L len s e)
+        ∙ ap (λ (x : PoolMode). following (routeMoves g ++ m .moves) changes (finish x (m .pool) [] len)) (mode-is n S L len s e)
+        ∙ following-first (routeMoves g) (m .moves) changes (finish (m .mode) (m .pool) [] len)
+        ∙ ap (following (routeMoves g) changes) (sym (finish-moves (m .mode) (m .pool) (m .moves) len) ∙ sym (unfolds false (sym (again-is n S L len s e) ∙ t) k z))
 
-    pub places-here : s .again ≡ false → Decides c (following (listed (s .moves)) changes (finished (s .pool) len)) len
-        → Decides c (following (listed moves) changes (placeOf (p .slots) left entered (p .mode) p len)) len
-    places-here t D = go left refl
+    pub places-here : s .again ≡ false → c ≡ finishedOn (s .numbers .mode) (s .numbers) on changes len → Whole
+    places-here t f = go left refl
       where
-        go : (k : ℕ) → left ≡ k → Decides c (following (listed moves) changes (placeOf (p .slots) left entered (p .mode) p len)) len
-        go zero z = absurd (n z)
-        go (suc k) z = subst (λ (d : Decision). Decides c d len) (stops k z t) D
+        go : (k : ℕ) → left ≡ k → Whole
+        go zero z = absurd (o z)
+        go (suc k) z = subst (λ (d : Decision). Decides S L c d len) (stops k z t) (finish-decides (s .numbers) S L on changes len c f)

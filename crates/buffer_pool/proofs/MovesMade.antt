@@ -44,7 +44,7 @@ module _ (run : List Move → Memories → Memories) (one : Memories → Move �
       go rest false e = rw (more a (lessSelfCopies l) m) (rest (one m a))
 
 -- a move to where the bytes are
-moved-self : (x : List ℕ) (s l t : ℕ) → s ≡ t → moved x s l t ≡ x
+pub moved-self : (x : List ℕ) (s l t : ℕ) → s ≡ t → moved x s l t ≡ x
 unfolding moved copied part
 moved-self x s l t e = rw (← e, ← take-add s l x) (take-append-drop (s + l) x)
 

@@ -1,244 +1,295 @@
--- The numbers of the soundness test, from what the code of sound.rt knows where it returns; and that the numbers' test with the pass
--- over the slots is the test of Soundness.antt. Assumes nothing.
+-- The parts of the soundness test, from what the code of sound.rt knows where it returns. Assumes nothing.
 use mathlib.Core.Path.{_≡_, refl, sym, ap, _∙_}
-use mathlib.Core.Bool.{Bool, true, false, not, _&&_, _||_}
-use Prim.Native.Nat.{ℕ, zero, suc, _^_, _+_, _-_, _≤_, _<_}
+use mathlib.Core.Bool.{Bool, true, false, not, _&&_}
+use mathlib.Core.List.{List}
+use Prim.Native.Nat.{ℕ, _^_, _+_, _-_, _/_, _≤_, _<_}
 use native.Mathlib.Nat.{add-zero}
 use native.Mathlib.Omega.{arith}
+use lib.Count.{trailingZeros}
 use lib.Dec.{leb, ltb, eqb}
-use lib.ListN.{length, getD}
-use borrow.Author.Tests.{lt-ltb, le-ltb, lt-leb, le-leb, eq-eqb, ne-eqb, leb-true}
-use Rattle.laws.specs.Tests.{pick, implies, every}
-use Rattle.laws.specs.Live.{liveAt, lives}
-use Rattle.laws.proofs.Tests.{both-true, every-make, every-same, eqb-and, ltb-and, not-true, not-false}
-use Rattle.buffer_pool.specs.declared.buffer_pool.BufferPool.{BufferPool}
+use borrow.Author.Tests.{lt-ltb, lt-leb, le-leb, eq-eqb, ne-eqb, ltb-true, leb-true, leb-false}
+use Rattle.laws.specs.Live.{lastLive}
+use Rattle.laws.proofs.Tests.{both-true, leb-and, eqb-and, not-true, not-false}
+use Rattle.laws.proofs.Slots.{last-zeros-all}
 use Rattle.buffer_pool.specs.declared.buffer_pool.PoolFront.{PoolFront}
 use Rattle.buffer_pool.specs.declared.buffer_pool.PoolMode.{PoolMode}
 use Rattle.buffer_pool.specs.declared.buffer_pool.PoolMode.the-variants.{Back, Front, Alloc}
-use Rattle.buffer_pool.specs.declared.sound.Bounds.{Bounds}
-use Rattle.buffer_pool.specs.declared.sound.Numbers.{Numbers}
-use Rattle.buffer_pool.specs.Record.{mostSlots, startAt, after}
-use Rattle.buffer_pool.specs.Deciding.{Worded}
-use Rattle.buffer_pool.specs.Soundness.{isCount, shaped, limited, counted, rising, framedWithin, backNumbers, backSound, besides, frontNumbers, frontSound, allocSound, modeSound, orderly, sound}
-use Rattle.buffer_pool.specs.SlotPass.{passed, beside, bounds, boundsOf, slotSound, slotPass, passes, numbersSound}
+use Rattle.buffer_pool.specs.declared.numbers.Numbers.{Numbers}
+use Rattle.buffer_pool.specs.declared.sound.Span.{Span}
+use Rattle.buffer_pool.specs.Record.{mostSlots}
+use Rattle.buffer_pool.specs.Numbers.{bare}
+use Rattle.buffer_pool.specs.Soundness.{isCount, framedWithin, backNumbers, allocSound}
+use Rattle.buffer_pool.specs.SlotPass.{ordered, wordFits, backWithin, frontCounts, modeNumbers, numbersSound, frontOwn, ownSound, frontSound, bytesSound, spanOf, orderedIn, slotsSound, partsSound}
 use Rattle.buffer_pool.proofs.Parts.{count-bounds}
+use Rattle.buffer_pool.proofs.SlotPassLaws.{ordered-last, ordered-front}
+
+-- ---- The slot count and the live word
+
+module _ (n : Numbers) where
+  pub word-sixteen : n .slots ≡ 16 → n .live < 65536 → true ≡ wordFits (n .slots) (n .live)
+  unfolding wordFits isCount
+  word-sixteen z l = rw (z, lt-ltb (n .live) 65536 l)
+
+  pub word-eight : n .slots ≡ 8 → ltb (n .live) 256 ≡ wordFits (n .slots) (n .live)
+  unfolding wordFits isCount
+  word-eight z = rw z
+
+  pub word-other : (n .slots ≡ 16 → ⊥) → (n .slots ≡ 8 → ⊥) → false ≡ wordFits (n .slots) (n .live)
+  unfolding wordFits isCount
+  word-other a b = rw (ne-eqb (n .slots) 8 b, ne-eqb (n .slots) 16 a)
+
+-- a word that fits, and its count of slots
+pub word-most : (w live : ℕ) → wordFits w live ≡ true → w ≤ mostSlots
+unfolding wordFits
+word-most w live e = count-bounds w (both-true (isCount w) _ e .0) .1
+
+pub word-below : (w live : ℕ) → wordFits w live ≡ true → live < 2 ^ w
+unfolding wordFits
+word-below w live e = ltb-true live (2 ^ w) (both-true (isCount w) _ e .1)
 
 -- ---- The back's numbers, by subtraction
 
-pub past-back : (w s n : ℕ) → s < w → w - s < n → leb (s + n) w ≡ false
-past-back w s n h k = lt-leb (s + n) w (omega arith)
+pub back-slots : (n : Numbers) → n .«back_start» < n .slots → leb (n .«back_len») (n .slots - n .«back_start») ≡ backWithin n
+unfolding backWithin
+back-slots n h = rw (lt-ltb (n .«back_start») (n .slots) h) (go (leb (n .«back_len») (n .slots - n .«back_start»)) refl)
+  where
+    go : (b : Bool) → leb (n .«back_len») (n .slots - n .«back_start») ≡ b → b ≡ leb (n .«back_start» + n .«back_len») (n .slots)
+    go true e = sym (le-leb (n .«back_start» + n .«back_len») (n .slots) (omega (arith, leb-true (n .«back_len») (n .slots - n .«back_start») e)))
+    go false e = sym (lt-leb (n .«back_start» + n .«back_len») (n .slots) (omega (arith, leb-false (n .«back_len») (n .slots - n .«back_start») e)))
 
-pub within-back : (w s n : ℕ) → s < w → n ≤ w - s → leb (s + n) w ≡ true
-within-back w s n h k = le-leb (s + n) w (omega arith)
+pub back-begins : (n : Numbers) → backWithin n ≡ true → n .«back_start» < n .slots
+unfolding backWithin
+back-begins n e = ltb-true (n .«back_start») (n .slots) (both-true (ltb (n .«back_start») (n .slots)) _ e .0)
 
--- a record that passes has its back within the slots
-pub counted-within : (p : BufferPool) (b : Bool) → b ≡ counted (p .slots) p → not b ≡ false → p .«back_start» + p .«back_len» ≤ p .slots
-unfolding counted
-counted-within p b e h =
-    let s = both-true (leb (p .kept) (p .overflow)) _ (sym e ∙ not-false b h) .1 in
-    leb-true (p .«back_start» + p .«back_len») (p .slots) (both-true (leb (p .«back_start» + p .«back_len») (p .slots)) _ (both-true (ltb (p .«back_start») (p .slots)) _ s .1) .0)
+pub back-ends : (n : Numbers) → backWithin n ≡ true → n .«back_start» + n .«back_len» ≤ n .slots
+unfolding backWithin
+back-ends n e = leb-true (n .«back_start» + n .«back_len») (n .slots) (both-true (ltb (n .«back_start») (n .slots)) _ e .1)
 
 -- ---- Frame and reservation
 
-module _ (p : BufferPool) (bytes : ℕ) (left : Bool) (b : Bool) (e : b ≡ leb (p .«raw_offset» + p .«raw_len» + p .reserved) bytes) where
-  pub frame-past : not b ≡ true → false ≡ framedWithin p bytes left
+module _ (n : Numbers) (bytes : ℕ) (left : Bool) (b : Bool) (e : b ≡ leb (n .«raw_offset» + n .«raw_len» + n .reserved) bytes) where
+  pub frame-past : not b ≡ true → false ≡ framedWithin (bare n) bytes left
   unfolding framedWithin
   frame-past h = rw (← e, not-true b h)
 
   module _ (h : not b ≡ false) where
-    pub frame-slot : left ≡ true → true ≡ framedWithin p bytes left
+    pub frame-slot : left ≡ true → true ≡ framedWithin (bare n) bytes left
     unfolding framedWithin
     frame-slot l = rw (← e, not-false b h, l)
 
     module _ (l : left ≡ false) where
-      pub frame-some : (p .«raw_len» ≡ 0 → ⊥) → false ≡ framedWithin p bytes left
+      pub frame-some : (n .«raw_len» ≡ 0 → ⊥) → false ≡ framedWithin (bare n) bytes left
       unfolding framedWithin
-      frame-some n = rw (← e, not-false b h, l, ne-eqb (p .«raw_len» + p .reserved) 0 (λ z. n (omega arith)))
+      frame-some z = rw (← e, not-false b h, l, ne-eqb (n .«raw_len» + n .reserved) 0 (λ y. z (omega arith)))
 
-      pub frame-none : p .«raw_len» ≡ 0 → eqb (p .reserved) 0 ≡ framedWithin p bytes left
+      pub frame-none : n .«raw_len» ≡ 0 → eqb (n .reserved) 0 ≡ framedWithin (bare n) bytes left
       unfolding framedWithin
-      frame-none z = let s : p .reserved ≡ p .«raw_len» + p .reserved = omega arith in rw (← e, not-false b h, l, ← s)
+      frame-none z = let s : n .reserved ≡ n .«raw_len» + n .reserved = omega arith in rw (← e, not-false b h, l, ← s)
 
 -- ---- The overflow's numbers
 
-pub overflow-within : (p : BufferPool) (b : Bool) → b ≡ leb (p .cursor + p .reserved + 0) (p .kept) → p .«raw_offset» ≡ 0 → p .«raw_len» ≡ 0 → b ≡ allocSound p
+pub overflow-within : (n : Numbers) (b : Bool) → b ≡ leb (n .cursor + n .reserved + 0) (n .kept) → n .«raw_offset» ≡ 0
+    → n .«raw_len» ≡ 0 → b ≡ allocSound (bare n)
 unfolding allocSound
-overflow-within p b e z y = e ∙ rw (add-zero, eq-eqb (p .«raw_offset») 0 z, eq-eqb (p .«raw_len») 0 y)
+overflow-within n b e z y = e ∙ rw (add-zero, eq-eqb (n .«raw_offset») 0 z, eq-eqb (n .«raw_len») 0 y)
 
--- ---- By the mode
+-- ---- The numbers by the mode
 
-module _ (p : BufferPool) (t : Bool) where
-  pub numbers-back : p .mode ≡ Back → t ≡ backNumbers (p .slots) p → t ≡ numbersSound (p .slots) (p .mode) p
+module _ (n : Numbers) (t : Bool) where
+  pub numbers-back : n .mode ≡ Back → t ≡ backNumbers (n .slots) (bare n) → t ≡ modeNumbers (n .mode) n
+  unfolding modeNumbers
+  numbers-back m e = e ∙ ap (λ (x : PoolMode). modeNumbers x n) (sym m)
+
+  pub numbers-front : (f : PoolFront) → n .mode ≡ Front f → t ≡ frontCounts n f → t ≡ modeNumbers (n .mode) n
+  unfolding modeNumbers
+  numbers-front f m e = e ∙ ap (λ (x : PoolMode). modeNumbers x n) (sym m)
+
+  pub numbers-alloc : n .mode ≡ Alloc → t ≡ allocSound (bare n) → t ≡ modeNumbers (n .mode) n
+  unfolding modeNumbers
+  numbers-alloc m e = e ∙ ap (λ (x : PoolMode). modeNumbers x n) (sym m)
+
+-- ---- The first part
+
+pub counted-within : (n : Numbers) (b : Bool) → b ≡ backWithin n → not b ≡ false → n .«back_start» + n .«back_len» ≤ n .slots
+counted-within n b e h = back-ends n (sym e ∙ not-false b h)
+
+module _ (n : Numbers) (a : Bool) (e : a ≡ wordFits (n .slots) (n .live)) where
+  pub not-worded : not a ≡ true → false ≡ numbersSound n
   unfolding numbersSound
-  numbers-back m e = e ∙ ap (λ (x : PoolMode). numbersSound (p .slots) x p) (sym m)
+  not-worded h = rw (← e, not-true a h)
 
-  pub numbers-front : (f : PoolFront) → p .mode ≡ Front f → t ≡ frontNumbers (p .slots) p f → t ≡ numbersSound (p .slots) (p .mode) p
+  module _ (h : not a ≡ false) (b : Bool) (d : b ≡ backWithin n) where
+    pub not-counted : not b ≡ true → false ≡ numbersSound n
+    unfolding numbersSound
+    not-counted k = rw (← e, not-false a h, ← d, not-true b k)
+
+    pub mode-decides : not b ≡ false → (t : Bool) → t ≡ modeNumbers (n .mode) n → t ≡ numbersSound n
+    unfolding numbersSound
+    mode-decides k t q = q ∙ rw (← e, not-false a h, ← d, not-false b k)
+
+-- what the other parts need of it
+module _ (n : Numbers) (s : Bool) (e : s ≡ numbersSound n) (h : not s ≡ false) where
+  first-parts : (wordFits (n .slots) (n .live) ≡ true) × ((backWithin n && modeNumbers (n .mode) n) ≡ true)
   unfolding numbersSound
-  numbers-front f m e = e ∙ ap (λ (x : PoolMode). numbersSound (p .slots) x p) (sym m)
+  first-parts = both-true (wordFits (n .slots) (n .live)) _ (sym e ∙ not-false s h)
 
-  pub numbers-alloc : p .mode ≡ Alloc → t ≡ allocSound p → t ≡ numbersSound (p .slots) (p .mode) p
-  unfolding numbersSound
-  numbers-alloc m e = e ∙ ap (λ (x : PoolMode). numbersSound (p .slots) x p) (sym m)
+  pub numbers-most : n .slots ≤ mostSlots
+  numbers-most = word-most (n .slots) (n .live) (first-parts .0)
 
-module _ (p : BufferPool) where
-  pub bounds-back : p .mode ≡ Back → bounds p (p .slots) (p .«raw_offset») (p .slots) 0 ≡ boundsOf (p .slots) (p .mode) p
-  unfolding boundsOf
-  bounds-back m = ap (λ (x : PoolMode). boundsOf (p .slots) x p) (sym m)
+  pub numbers-word : n .live < 2 ^ n .slots
+  numbers-word = word-below (n .slots) (n .live) (first-parts .0)
 
-  pub bounds-front : (f : PoolFront) → p .mode ≡ Front f → bounds p (f .len) (p .«raw_offset») (f .«back_start») (f .«byte_capacity») ≡ boundsOf (p .slots) (p .mode) p
-  unfolding boundsOf
-  bounds-front f m = ap (λ (x : PoolMode). boundsOf (p .slots) x p) (sym m)
+  pub numbers-ends : n .«back_start» + n .«back_len» ≤ n .slots
+  numbers-ends = back-ends n (both-true (backWithin n) _ (first-parts .1) .0)
 
-  pub bounds-alloc : p .mode ≡ Alloc → bounds p 0 0 0 0 ≡ boundsOf (p .slots) (p .mode) p
-  unfolding boundsOf
-  bounds-alloc m = ap (λ (x : PoolMode). boundsOf (p .slots) x p) (sym m)
+  numbers-begins : n .«back_start» < n .slots
+  numbers-begins = back-begins n (both-true (backWithin n) _ (first-parts .1) .0)
 
--- ---- The whole test
+  -- a front has a slot, and no more than lie before the back
+  front-slots : (f : PoolFront) → n .mode ≡ Front f → (1 ≤ f .«back_start») × (f .«back_start» ≤ n .«back_start»)
+  unfolding modeNumbers frontCounts
+  front-slots f m =
+      let c = ap (λ (x : PoolMode). modeNumbers x n) (sym m) ∙ both-true (backWithin n) _ (first-parts .1) .1 in
+      let one = leb-and 1 (f .«back_start») (eqb-and (n .«back_start» + n .«back_len») (n .slots) c .1) in
+      (one .0, leb-and (f .«back_start») (n .«back_start») (one .1) .0)
 
-and-true : (a : Bool) → (a && true) ≡ a
-and-true true = refl
-and-true false = refl
+  pub numbers-some : (f : PoolFront) → n .mode ≡ Front f → 1 ≤ f .«back_start»
+  numbers-some f m = front-slots f m .0
 
-and-false : (a : Bool) → (a && false) ≡ false
-and-false true = refl
-and-false false = refl
+  pub numbers-fronts : (f : PoolFront) → n .mode ≡ Front f → f .«back_start» ≤ n .slots
+  numbers-fronts f m = omega (arith, front-slots f m .1, numbers-begins)
 
--- the slots' part of a mode's test
-slotsOf : PoolMode → BufferPool → Bool
-slotsOf mode r = every (λ p. implies (liveAt (r .slots) (r .live) p) (beside (boundsOf (r .slots) mode r) p (startAt (r .starts) p) (after (r .starts) (r .lengths) p))) 1 (r .slots)
+  pub numbers-first : spanOf (n .mode) n .first < n .slots
+  unfolding spanOf
+  numbers-first = go (n .mode) refl
+    where
+      go : (x : PoolMode) → n .mode ≡ x → spanOf x n .first < n .slots
+      go Back m = omega (arith, numbers-begins)
+      go (Front f) m = omega (arith, front-slots f m .1, numbers-begins)
+      go Alloc m = omega (arith, numbers-begins)
 
-implies-true : (a b : Bool) → b ≡ true → implies a b ≡ true
-implies-true true b e = e
-implies-true false b e = refl
+-- ---- A front
 
-or-false : (a : Bool) → (a || false) ≡ a
-or-false true = refl
-or-false false = refl
+module _ (n : Numbers) (starts lengths : List ℕ) (f : PoolFront) where
+  pub cursor-fails : (n .cursor ≡ 0 → ⊥) → false ≡ frontOwn n starts lengths f
+  unfolding frontOwn
+  cursor-fails z = rw (ne-eqb (n .cursor) 0 z)
 
-or-true : (a : Bool) → (a || true) ≡ true
-or-true true = refl
-or-true false = refl
+  module _ (z : n .cursor ≡ 0) where
+    pub bytes-fail : n .capacity < f .«byte_capacity» → false ≡ frontOwn n starts lengths f
+    unfolding frontOwn
+    bytes-fail b = rw (eq-eqb (n .cursor) 0 z, lt-leb (f .«byte_capacity») (n .capacity) b)
 
-mode-splits : (mode : PoolMode) (r : BufferPool) → modeSound (r .slots) mode r ≡ (numbersSound (r .slots) mode r && slotsOf mode r)
-unfolding modeSound backSound frontSound besides numbersSound slotsOf lives beside boundsOf
-mode-splits Back r = ap (λ (x : Bool). backNumbers (r .slots) r && x) slots
-  where
-    slots : every (λ p. implies (liveAt (r .slots) (r .live) p) (leb (after (r .starts) (r .lengths) p) (r .«raw_offset»))) 1 (r .slots)
-        ≡ every (λ p. implies (liveAt (r .slots) (r .live) p) ((leb p (r .slots) && leb (after (r .starts) (r .lengths) p) (r .«raw_offset»)) || (ltb (r .slots) p && leb 0 (startAt (r .starts) p)))) 1 (r .slots)
-    slots = every-same _ _ 1 (r .slots) (λ p k l. ap (implies (liveAt (r .slots) (r .live) p)) (rw (le-leb p (r .slots) (omega arith), le-ltb (r .slots) p (omega arith)) (sym (or-false (leb (after (r .starts) (r .lengths) p) (r .«raw_offset»))))))
-mode-splits (Front f) r = refl
-mode-splits Alloc r = sym (ap (λ (x : Bool). allocSound r && x) slots ∙ and-true (allocSound r))
-  where
-    slots : every (λ p. implies (liveAt (r .slots) (r .live) p) ((leb p 0 && leb (after (r .starts) (r .lengths) p) 0) || (ltb 0 p && leb 0 (startAt (r .starts) p)))) 1 (r .slots) ≡ true
-    slots = every-make _ 1 (r .slots) (λ p k l. implies-true (liveAt (r .slots) (r .live) p) _ (rw (lt-ltb 0 p k, le-leb 0 (startAt (r .starts) p) (omega arith)) (or-true (leb p 0 && leb (after (r .starts) (r .lengths) p) 0))))
+    module _ (b : f .«byte_capacity» ≤ n .capacity) (t : Bool)
+        (e : t ≡ framedWithin (bare n) (f .«byte_capacity») (ltb (f .len) (f .«back_start»))) where
+      pub frame-fails : not t ≡ true → false ≡ frontOwn n starts lengths f
+      unfolding frontOwn
+      frame-fails h = rw (eq-eqb (n .cursor) 0 z, le-leb (f .«byte_capacity») (n .capacity) b, ← e, not-true t h)
 
--- a live slot's clauses, with its own test and the tests of the slots after it, one after the other
-weave : (a b c d x r e q : Bool) → (r && e) ≡ q
-    → ((a && (b && (c && (d && r)))) && (x && e)) ≡ pick (a && (b && (c && (d && x)))) q false
-weave false b c d x r e q h = refl
-weave true false c d x r e q h = refl
-weave true true false d x r e q h = refl
-weave true true true false x r e q h = refl
-weave true true true true false r e q h = and-false r
-weave true true true true true r e q h = h
+      module _ (h : not t ≡ false) (own : ℕ) (d : own ≡ lastLive (n .slots) (n .live) (f .«back_start»)) where
+        pub own-fails : f .len < own → false ≡ frontOwn n starts lengths f
+        unfolding frontOwn
+        own-fails k = rw (eq-eqb (n .cursor) 0 z, le-leb (f .«byte_capacity») (n .capacity) b, ← e, not-false t h, ← d, lt-leb own (f .len) k)
 
--- one slot of each, live or not
-turn-is : (l a b c d x r s e : Bool) (stop end : ℕ) (q : ℕ → Bool) → (r && e) ≡ q stop → (s && e) ≡ q end
-    → (pick l (a && (b && (c && (d && r)))) s && (implies l x && e))
-    ≡ pick (pick l (passed (a && (b && (c && (d && x)))) stop) (passed true end) .sound) (q (pick l (passed (a && (b && (c && (d && x)))) stop) (passed true end) .end)) false
-turn-is true a b c d x r s e stop end q h k = weave a b c d x r e (q stop) h
-turn-is false a b c d x r s e stop end q h k = k
+        pub own-decides : own ≤ f .len → f .«back_start» ≤ n .slots → (bits : ℕ) → bits ≡ n .live / 2 ^ (n .slots - f .«back_start») → (u : Bool)
+            → u ≡ ordered (f .«back_start») starts lengths bits (f .«back_start» - 0) 0 0 (n .«raw_offset») → u ≡ frontOwn n starts lengths f
+        unfolding frontOwn
+        own-decides k m bits g u q =
+            let all : f .«back_start» - 0 ≡ f .«back_start» = omega arith in
+            let some : lastLive (n .slots) (n .live) (f .«back_start») - 0 ≡ own = omega (arith, d) in
+            q ∙ rw (g, all) (ordered-front (n .slots) starts lengths (n .live) (n .«raw_offset») (f .«back_start») (f .«back_start») 0 0 m (omega arith))
+            ∙ ordered-last (n .slots) starts lengths (n .live) (n .«raw_offset») (f .«back_start») (f .«back_start») 0 0 (omega arith)
+            ∙ rw (some, eq-eqb (n .cursor) 0 z, le-leb (f .«byte_capacity») (n .capacity) b, ← e, not-false t h, ← d, le-leb own (f .len) k)
 
--- the pass is the rising slots with each live slot beside its bounds
-module _ (r : BufferPool) (own offset above bytes : ℕ) where
-  abbrev b : Bounds
-  b = bounds r own offset above bytes
+-- ---- The second part
 
-  abbrev test : ℕ → Bool
-  test p = implies (liveAt (r .slots) (r .live) p) (beside b p (startAt (r .starts) p) (after (r .starts) (r .lengths) p))
+module _ (n : Numbers) (starts lengths : List ℕ) (s : Bool) (e : s ≡ numbersSound n) where
+  pub numbers-fail : not s ≡ true → false ≡ frontSound n starts lengths
+  unfolding frontSound
+  numbers-fail h = rw (← e, not-true s h)
 
-  pass-is : (n i end : ℕ) → (rising (r .slots) r (b .most) n (suc i) end && every test (suc i) n) ≡ passes (r .slots) (r .starts) (r .lengths) (r .live) b n i end
-  unfolding rising every passes slotPass slotSound after
-  pass-is zero i end = refl
-  pass-is (suc n) i end =
-      let s : suc i - 1 ≡ i = omega arith in
-      let start : ℕ = getD (r .starts) i 0 in
-      let stop : ℕ = getD (r .starts) i 0 + getD (r .lengths) i 0 in
-      rw s
-      (turn-is (liveAt (r .slots) (r .live) (suc i)) (leb (suc i) (b .most)) (leb end start) (ltb start stop) (leb stop (r .capacity)) (beside b (suc i) start stop)
-      (rising (r .slots) r (b .most) n (suc (suc i)) stop) (rising (r .slots) r (b .most) n (suc (suc i)) end) (every test (suc (suc i)) n)
-      stop end (passes (r .slots) (r .starts) (r .lengths) (r .live) b n (suc i)) (pass-is n (suc i) stop) (pass-is n (suc i) end))
+  module _ (h : not s ≡ false) where
+    own-is : frontSound n starts lengths ≡ ownSound (n .mode) n starts lengths
+    unfolding frontSound
+    own-is = rw (← e, not-false s h)
 
-mode-pass : (mode : PoolMode) (r : BufferPool)
-    → (rising (r .slots) r (r .«back_start» + r .«back_len») (r .slots) 1 0 && slotsOf mode r) ≡ passes (r .slots) (r .starts) (r .lengths) (r .live) (boundsOf (r .slots) mode r) (r .slots) 0 0
-unfolding slotsOf boundsOf
-mode-pass Back r = pass-is r (r .slots) (r .«raw_offset») (r .slots) 0 (r .slots) 0 0
-mode-pass (Front f) r = pass-is r (f .len) (r .«raw_offset») (f .«back_start») (f .«byte_capacity») (r .slots) 0 0
-mode-pass Alloc r = pass-is r 0 0 0 0 (r .slots) 0 0
+    pub own-back : n .mode ≡ Back → true ≡ frontSound n starts lengths
+    unfolding ownSound
+    own-back m = sym (own-is ∙ ap (λ (x : PoolMode). ownSound x n starts lengths) m)
 
-pub capacity-past : (p : BufferPool) → 1048576 < p .capacity → false ≡ limited p
-unfolding limited
-capacity-past p h = rw (lt-leb (p .capacity) 1048576 h)
+    pub own-front : (f : PoolFront) → n .mode ≡ Front f → (t : Bool) → t ≡ frontOwn n starts lengths f → t ≡ frontSound n starts lengths
+    unfolding ownSound
+    own-front f m t q = q ∙ sym (own-is ∙ ap (λ (x : PoolMode). ownSound x n starts lengths) m)
 
-pub overflow-limited : (p : BufferPool) → p .capacity ≤ 1048576 → leb (p .overflow) 1048576 ≡ limited p
-unfolding limited
-overflow-limited p h = rw (le-leb (p .capacity) 1048576 h)
+    pub own-alloc : n .mode ≡ Alloc → true ≡ frontSound n starts lengths
+    unfolding ownSound
+    own-alloc m = sym (own-is ∙ ap (λ (x : PoolMode). ownSound x n starts lengths) m)
 
-module _ (p : BufferPool) (l : Bool) (i : l ≡ limited p) where
-  pub not-limited : not l ≡ true → false ≡ sound (p .slots) p
-  unfolding sound
-  not-limited h = rw (← i, not-true l h)
+-- what the third part needs of it
+module _ (n : Numbers) (starts lengths : List ℕ) (s : Bool) (e : s ≡ frontSound n starts lengths) (h : not s ≡ false) where
+  held-numbers : true ≡ numbersSound n
+  unfolding frontSound
+  held-numbers = sym (both-true (numbersSound n) _ (sym e ∙ not-false s h) .0)
 
-  module _ (b : Bool) (e : b ≡ counted (p .slots) p) where
-    pub not-counted : not b ≡ true → false ≡ sound (p .slots) p
-    unfolding sound orderly
-    not-counted h = rw (← e, not-true b h, and-false (shaped (p .slots) p), and-false (limited p))
+  pub front-most : n .slots ≤ mostSlots
+  front-most = numbers-most n true held-numbers refl
 
-    module _ (h : not b ≡ false) (n : Numbers) (f : n .sound ≡ numbersSound (p .slots) (p .mode) p) (g : n .bounds ≡ boundsOf (p .slots) (p .mode) p) where
-      rest : sound (p .slots) p ≡ (limited p && (shaped (p .slots) p && (rising (p .slots) p (p .«back_start» + p .«back_len») (p .slots) 1 0 && (n .sound && slotsOf (p .mode) p))))
-      unfolding sound orderly
-      rest = rw (← e, not-false b h, mode-splits (p .mode) p, f)
+  pub front-word : n .live < 2 ^ n .slots
+  front-word = numbers-word n true held-numbers refl
 
-      pub numbers-fail : not (n .sound) ≡ true → false ≡ sound (p .slots) p
-      numbers-fail t =
-          sym (rest ∙ rw (not-true (n .sound) t, and-false (rising (p .slots) p (p .«back_start» + p .«back_len») (p .slots) 1 0), and-false (shaped (p .slots) p), and-false (limited p)))
+  pub front-ends : n .«back_start» + n .«back_len» ≤ n .slots
+  front-ends = numbers-ends n true held-numbers refl
 
-      pub slots-decide : not l ≡ false → (sh : Bool) → sh ≡ shaped (p .slots) p → not sh ≡ false → not (n .sound) ≡ false
-          → (t : Bool) → t ≡ passes (p .slots) (p .starts) (p .lengths) (p .live) (n .bounds) (p .slots) 0 0 → t ≡ sound (p .slots) p
-      slots-decide c sh si sj m t q =
-          let s : shaped (p .slots) p ≡ true = sym si ∙ not-false sh sj in
-          q ∙ ap (λ (x : Bounds). passes (p .slots) (p .starts) (p .lengths) (p .live) x (p .slots) 0 0) g ∙ sym (mode-pass (p .mode) p)
-          ∙ sym (rest ∙ rw (← i, not-false l c, s, not-false (n .sound) m))
+  pub front-first : spanOf (n .mode) n .first < n .slots
+  front-first = numbers-first n true held-numbers refl
 
--- in code the types say that the arrays have a place for every slot
-module _ (p : BufferPool) (s : length (p .starts) ≡ 16) (n : length (p .lengths) ≡ 16) (e : length (p .serials) ≡ 16)
-    (c : length (p .callers) ≡ 16) (g : length (p .given) ≡ 4) where
-  pub shaped-sixteen : p .slots ≡ 16 → p .live < 65536 → true ≡ shaped (p .slots) p
-  unfolding shaped isCount
-  shaped-sixteen z l = rw (z, lt-ltb (p .live) 65536 l, s, n, e, c, g)
+-- ---- The third part
 
-  pub shaped-eight : p .slots ≡ 8 → ltb (p .live) 256 ≡ shaped (p .slots) p
-  unfolding shaped isCount
-  shaped-eight z = rw (z, s, n, e, c, g) (sym (and-true (ltb (p .live) 256)))
+module _ (n : Numbers) where
+  pub span-back : n .mode ≡ Back → record { first = 0; from = 0; to = n .«raw_offset» } ≡ spanOf (n .mode) n
+  unfolding spanOf
+  span-back m = ap (λ (x : PoolMode). spanOf x n) (sym m)
 
-  pub shaped-other : (p .slots ≡ 16 → ⊥) → (p .slots ≡ 8 → ⊥) → false ≡ shaped (p .slots) p
-  unfolding shaped isCount
-  shaped-other a b = rw (ne-eqb (p .slots) 8 b, ne-eqb (p .slots) 16 a, and-false (eqb (p .slots) (p .slots)))
+  pub span-front : (f : PoolFront) → n .mode ≡ Front f
+      → record { first = f .«back_start»; from = f .«byte_capacity»; to = n .capacity } ≡ spanOf (n .mode) n
+  unfolding spanOf
+  span-front f m = ap (λ (x : PoolMode). spanOf x n) (sym m)
 
--- a record that is not shaped is unsound, and a shaped one has its word
-pub not-shaped : (p : BufferPool) (b : Bool) → b ≡ shaped (p .slots) p → not b ≡ true → false ≡ sound (p .slots) p
-unfolding sound orderly
-not-shaped p b e h = rw (← e, not-true b h, and-false (limited p))
+  pub span-alloc : n .mode ≡ Alloc → record { first = 0; from = 0; to = n .capacity } ≡ spanOf (n .mode) n
+  unfolding spanOf
+  span-alloc m = ap (λ (x : PoolMode). spanOf x n) (sym m)
 
-shaped-worded : (p : BufferPool) (b : Bool) → b ≡ shaped (p .slots) p → not b ≡ false → Worded p
-unfolding shaped
-shaped-worded p b e h =
-    let t = eqb-and (p .slots) (p .slots) (sym e ∙ not-false b h) .1 in
-    let u = both-true (isCount (p .slots)) _ t in
-    record { most = count-bounds (p .slots) (u .0) .1; word = ltb-and (p .live) (2 ^ p .slots) (u .1) .0 }
+-- the first slot that it passes is one
+pub span-first : (n : Numbers) (r : Span) → r ≡ spanOf (n .mode) n → spanOf (n .mode) n .first < n .slots → r .first < n .slots
+span-first n r i f = rw i f
 
-pub shaped-most : (p : BufferPool) (b : Bool) → b ≡ shaped (p .slots) p → not b ≡ false → p .slots ≤ mostSlots
-shaped-most p b e h = shaped-worded p b e h .most
+module _ (n : Numbers) (starts lengths : List ℕ) (b : Bool) (e : b ≡ bytesSound n) where
+  pub limits-fail : not b ≡ true → false ≡ slotsSound n starts lengths
+  unfolding slotsSound
+  limits-fail h = rw (← e, not-true b h)
 
-pub shaped-word : (p : BufferPool) (b : Bool) → b ≡ shaped (p .slots) p → not b ≡ false → p .live < 2 ^ p .slots
-shaped-word p b e h = shaped-worded p b e h .word
+  module _ (h : not b ≡ false) (l : n .live < 2 ^ n .slots) (z last : ℕ) (d : z ≡ trailingZeros (n .slots) (n .live)) (g : last ≡ n .slots - z) where
+    last-is : lastLive (n .slots) (n .live) (n .slots) ≡ last
+    last-is = last-zeros-all (n .slots) (n .live) l ∙ sym (g ∙ ap (λ (x : ℕ). n .slots - x) d)
+
+    pub slots-past : n .«back_start» + n .«back_len» < last → false ≡ slotsSound n starts lengths
+    unfolding slotsSound
+    slots-past k = rw (← e, not-false b h, last-is, lt-leb last (n .«back_start» + n .«back_len») k)
+
+    pub slots-decide : last ≤ n .«back_start» + n .«back_len» → (r : Span) → r ≡ spanOf (n .mode) n → spanOf (n .mode) n .first < n .slots → (t : Bool)
+        → t ≡ ordered (n .slots) starts lengths (n .live) (n .slots - r .first) (r .first) (r .from) (r .to) → t ≡ slotsSound n starts lengths
+    unfolding slotsSound orderedIn
+    slots-decide k r i f t q =
+        q ∙ ordered-last (n .slots) starts lengths (n .live) (r .to) (n .slots) (n .slots - r .first) (r .first) (r .from) (omega (arith, span-first n r i f))
+        ∙ rw (i, ← e, not-false b h, last-is, le-leb last (n .«back_start» + n .«back_len») k)
+
+-- ---- The three together
+
+module _ (n : Numbers) (starts lengths : List ℕ) (s : Bool) (e : s ≡ frontSound n starts lengths) where
+  pub front-fails : not s ≡ true → false ≡ partsSound n starts lengths
+  unfolding partsSound
+  front-fails h = rw (← e, not-true s h)
+
+  pub slots-last : not s ≡ false → (t : Bool) → t ≡ slotsSound n starts lengths → t ≡ partsSound n starts lengths
+  unfolding partsSound
+  slots-last h t q = q ∙ rw (← e, not-false s h)

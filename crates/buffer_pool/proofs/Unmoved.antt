@@ -12,111 +12,113 @@ use Rattle.buffer_pool.specs.declared.buffer_pool.BufferPool.{BufferPool
 use Rattle.buffer_pool.specs.declared.buffer_pool.PoolFront.{PoolFront}
 use Rattle.buffer_pool.specs.declared.buffer_pool.PoolMode.{PoolMode}
 use Rattle.buffer_pool.specs.declared.buffer_pool.PoolMode.the-variants.{Back, Front, Alloc}
+use Rattle.buffer_pool.specs.declared.numbers.Numbers.{Numbers}
 use Rattle.buffer_pool.specs.Record.{placed}
+use Rattle.buffer_pool.specs.Numbers.{bare}
 use Rattle.buffer_pool.specs.Moves.{Grow, within}
 use Rattle.buffer_pool.specs.Placing.{Decision, stay, first, tailFits, headFits, backFits, backOn, backLayer, frontFits, frontOn, frontLayer, stays, allocOn, allocLayer, layer, placeOf, isAlloc, resets, resetOn, resetMoves, reset, place}
 use Rattle.buffer_pool.specs.Deciding.{keepsIn, fitsIn, settled, startsOver, growingHere, growing, keptTo, offered}
 
 -- ---- What the code tests
 
-module _ (p : BufferPool) (len : ℕ) (b : Bool) where
-  pub fits-back : p .mode ≡ Back → b ≡ backFits (p .slots) p len → b ≡ fitsIn (p .mode) (p .slots) p len
+module _ (n : Numbers) (len : ℕ) (b : Bool) where
+  pub fits-back : n .mode ≡ Back → b ≡ backFits (n .slots) (bare n) len → b ≡ fitsIn (n .mode) (n .slots) (bare n) len
   unfolding fitsIn
-  fits-back m e = e ∙ rw m refl
+  fits-back m e = e ∙ ap (λ (x : PoolMode). fitsIn x (n .slots) (bare n) len) (sym m)
 
-  pub fits-front : (f : PoolFront) → p .mode ≡ Front f → b ≡ (ltb (f .len) (f .«back_start») && frontFits p (f .«byte_capacity») len) → b ≡ fitsIn (p .mode) (p .slots) p len
+  pub fits-front : (f : PoolFront) → n .mode ≡ Front f → b ≡ (ltb (f .len) (f .«back_start») && frontFits (bare n) (f .«byte_capacity») len) → b ≡ fitsIn (n .mode) (n .slots) (bare n) len
   unfolding fitsIn
-  fits-front f m e = e ∙ rw m refl
+  fits-front f m e = e ∙ ap (λ (x : PoolMode). fitsIn x (n .slots) (bare n) len) (sym m)
 
-  pub fits-alloc : p .mode ≡ Alloc → b ≡ (keepsIn (p .slots) p && leb (p .cursor + len + 0) (p .kept)) → b ≡ fitsIn (p .mode) (p .slots) p len
+  pub fits-alloc : n .mode ≡ Alloc → b ≡ (keepsIn (n .slots) (bare n) && leb (n .cursor + len + 0) (n .kept)) → b ≡ fitsIn (n .mode) (n .slots) (bare n) len
   unfolding fitsIn
-  fits-alloc m e = e ∙ rw m refl
+  fits-alloc m e = e ∙ ap (λ (x : PoolMode). fitsIn x (n .slots) (bare n) len) (sym m)
 
 -- does A keep the frame?
-module _ (p : BufferPool) (s : Bool) (e : s ≡ stays (p .slots) false p) where
-  pub keeps-staying : s ≡ true → true ≡ keepsIn (p .slots) p
+module _ (n : Numbers) (s : Bool) (e : s ≡ stays (n .slots) false (bare n)) where
+  pub keeps-staying : s ≡ true → true ≡ keepsIn (n .slots) (bare n)
   unfolding keepsIn
   keeps-staying t = rw (← e, t)
 
-  module _ (t : s ≡ false) (l : ℕ) (f : l ≡ leadingZeros (p .slots) (p .live)) where
-    pub head-free : (l ≡ 0 → ⊥) → false ≡ keepsIn (p .slots) p
+  module _ (t : s ≡ false) (l : ℕ) (f : l ≡ leadingZeros (n .slots) (n .live)) where
+    pub head-free : (l ≡ 0 → ⊥) → false ≡ keepsIn (n .slots) (bare n)
     unfolding keepsIn
-    head-free n = rw (← e, t, ← f, ne-eqb l 0 n)
+    head-free o = rw (← e, t, ← f, ne-eqb l 0 o)
 
-    pub tail-decides : l ≡ 0 → (k : ℕ) → k ≡ trailingZeros (p .slots) (p .live) → eqb k 0 ≡ keepsIn (p .slots) p
+    pub tail-decides : l ≡ 0 → (k : ℕ) → k ≡ trailingZeros (n .slots) (n .live) → eqb k 0 ≡ keepsIn (n .slots) (bare n)
     unfolding keepsIn
     tail-decides z k g = rw (← e, t, ← f, eq-eqb l 0 z, g)
 
-module _ (p : BufferPool) (len : ℕ) (s : Bool) (e : s ≡ keepsIn (p .slots) p) where
-  pub gone : not s ≡ true → false ≡ (keepsIn (p .slots) p && leb (p .cursor + len + 0) (p .kept))
+module _ (n : Numbers) (len : ℕ) (s : Bool) (e : s ≡ keepsIn (n .slots) (bare n)) where
+  pub gone : not s ≡ true → false ≡ (keepsIn (n .slots) (bare n) && leb (n .cursor + len + 0) (n .kept))
   gone t = rw (← e, not-true s t)
 
-  pub not-growing : not s ≡ true → false ≡ growingHere (p .slots) p len
+  pub not-growing : not s ≡ true → false ≡ growingHere (n .slots) (bare n) len
   unfolding growingHere
   not-growing t = rw (← e, not-true s t)
 
   module _ (t : not s ≡ false) where
-    pub kept-here : (b : Bool) → b ≡ leb (p .cursor + len + 0) (p .kept) → b ≡ (keepsIn (p .slots) p && leb (p .cursor + len + 0) (p .kept))
+    pub kept-here : (b : Bool) → b ≡ leb (n .cursor + len + 0) (n .kept) → b ≡ (keepsIn (n .slots) (bare n) && leb (n .cursor + len + 0) (n .kept))
     kept-here b f = f ∙ rw (← e, not-false s t)
 
-    module _ (o : Bool) (f : o ≡ leb (p .cursor + len + 0) (p .overflow)) where
-      pub no-room : not o ≡ true → false ≡ growingHere (p .slots) p len
+    module _ (o : Bool) (f : o ≡ leb (n .cursor + len + 0) (n .overflow)) where
+      pub no-room : not o ≡ true → false ≡ growingHere (n .slots) (bare n) len
       unfolding growingHere
       no-room h = rw (← e, not-false s t, ← f, not-true o h)
 
-      pub past-kept : not o ≡ false → (k : Bool) → k ≡ leb (p .cursor + len + 0) (p .kept) → not k ≡ growingHere (p .slots) p len
+      pub past-kept : not o ≡ false → (k : Bool) → k ≡ leb (n .cursor + len + 0) (n .kept) → not k ≡ growingHere (n .slots) (bare n) len
       unfolding growingHere
       past-kept h k g = rw (← e, not-false s t, ← f, not-false o h, g)
 
-module _ (p : BufferPool) (len : ℕ) (r : Bool) (e : r ≡ resets p) where
-  pub unsettled : r ≡ true → false ≡ settled (p .slots) p len
+module _ (n : Numbers) (len : ℕ) (r : Bool) (e : r ≡ resets (bare n)) where
+  pub unsettled : r ≡ true → false ≡ settled (n .slots) (bare n) len
   unfolding settled
   unsettled t = rw (← e, t)
 
-  pub settled-fits : r ≡ false → (b : Bool) → b ≡ fitsIn (p .mode) (p .slots) p len → b ≡ settled (p .slots) p len
+  pub settled-fits : r ≡ false → (b : Bool) → b ≡ fitsIn (n .mode) (n .slots) (bare n) len → b ≡ settled (n .slots) (bare n) len
   unfolding settled
   settled-fits t b f = f ∙ rw (← e, t)
 
-  pub still : r ≡ true → false ≡ growing (p .slots) p len
+  pub still : r ≡ true → false ≡ growing (n .slots) (bare n) len
   unfolding growing
   still t = rw (← e, t)
 
   module _ (t : r ≡ false) where
-    pub still-back : p .mode ≡ Back → false ≡ growing (p .slots) p len
+    pub still-back : n .mode ≡ Back → false ≡ growing (n .slots) (bare n) len
     unfolding growing
     still-back m = rw (← e, t, m)
 
-    pub still-front : (f : PoolFront) → p .mode ≡ Front f → false ≡ growing (p .slots) p len
+    pub still-front : (f : PoolFront) → n .mode ≡ Front f → false ≡ growing (n .slots) (bare n) len
     unfolding growing
     still-front f m = rw (← e, t, m)
 
-    pub growing-alloc : p .mode ≡ Alloc → (b : Bool) → b ≡ growingHere (p .slots) p len → b ≡ growing (p .slots) p len
+    pub growing-alloc : n .mode ≡ Alloc → (b : Bool) → b ≡ growingHere (n .slots) (bare n) len → b ≡ growing (n .slots) (bare n) len
     unfolding growing
     growing-alloc m b f = f ∙ rw (← e, t, m)
 
-  pub no-reset : not r ≡ true → false ≡ startsOver p len
+  pub no-reset : not r ≡ true → false ≡ startsOver (bare n) len
   unfolding startsOver
   no-reset t = rw (← e, not-true r t)
 
   module _ (t : not r ≡ false) where
-    pub some-frame : (p .«raw_len» ≡ 0 → ⊥) → false ≡ startsOver p len
+    pub some-frame : (n .«raw_len» ≡ 0 → ⊥) → false ≡ startsOver (bare n) len
     unfolding startsOver
-    some-frame n = go (not (isAlloc (p .mode))) ∙ rw (← e, not-false r t, ne-eqb (p .«raw_len») 0 n)
+    some-frame o = go (not (isAlloc (n .mode))) ∙ rw (← e, not-false r t, ne-eqb (n .«raw_len») 0 o)
       where
         go : (a : Bool) → false ≡ (a && false)
         go true = refl
         go false = refl
 
-    module _ (z : p .«raw_len» ≡ 0) where
-      pub over-back : p .mode ≡ Back → leb len (p .capacity) ≡ startsOver p len
+    module _ (z : n .«raw_len» ≡ 0) where
+      pub over-back : n .mode ≡ Back → leb len (n .capacity) ≡ startsOver (bare n) len
       unfolding startsOver
-      over-back m = rw (← e, not-false r t, m, eq-eqb (p .«raw_len») 0 z)
+      over-back m = rw (← e, not-false r t, m, eq-eqb (n .«raw_len») 0 z)
 
-      pub over-front : (f : PoolFront) → p .mode ≡ Front f → leb len (p .capacity) ≡ startsOver p len
+      pub over-front : (f : PoolFront) → n .mode ≡ Front f → leb len (n .capacity) ≡ startsOver (bare n) len
       unfolding startsOver
-      over-front f m = rw (← e, not-false r t, m, eq-eqb (p .«raw_len») 0 z)
+      over-front f m = rw (← e, not-false r t, m, eq-eqb (n .«raw_len») 0 z)
 
-      pub over-alloc : p .mode ≡ Alloc → false ≡ startsOver p len
+      pub over-alloc : n .mode ≡ Alloc → false ≡ startsOver (bare n) len
       unfolding startsOver
       over-alloc m = rw (← e, not-false r t, m)
 

@@ -41,10 +41,6 @@ misfit r m = not (eqb (length (m .pool)) (r .capacity) && eqb (length (m .overfl
 abbrev pub guarded : {A : Type 0} → ℕ → BufferPool → Memories → (ℕ → A) → A → A
 guarded w r m refuse done = pick (not (sound w r)) (refuse 1) (pick (misfit r m) (refuse 2) done)
 
--- the number that a call is refused with, where `own` is its step's own number: 1, 2, or own, which may be 0
-unfoldable pub numbered : ℕ → BufferPool → Memories → ℕ → ℕ
-numbered w r m own = guarded w r m (λ number. number) own
-
 -- the number of the cause that turns every call away, or 0
 unfoldable pub cause : ℕ → BufferPool → Memories → ℕ
 cause w r m = guarded w r m (λ number. number) 0

@@ -1,7 +1,7 @@
 pub mod Record
+pub mod Numbers
 pub mod Values
 pub mod Moves
-pub mod MoveList
 pub mod Placing
 pub mod Deciding
 pub mod Soundness
@@ -9,6 +9,7 @@ pub mod Sound
 pub mod SlotPass
 pub mod Steps
 pub mod Calls
+pub mod Lent
 pub mod Vocabulary
 pub mod Rust
 pub mod RustMoves

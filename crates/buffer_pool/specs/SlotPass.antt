@@ -1,56 +1,116 @@
--- The soundness test's one pass over the slots, as the code makes it (src/sound.rt). proofs/SoundTestLaws.antt shows that with the
--- test of the other numbers it is the test of Soundness.antt.
+-- The soundness test as the code makes it (src/sound.rt), in three parts: of a record's numbers, of a front, and of the slots with what
+-- is left. The starts and lengths are lent beside the numbers. proofs/SoundTestLaws.antt shows that the three together are the test of
+-- Soundness.antt.
+use mathlib.Core.Path.{_≡_}
 use mathlib.Core.Bool.{Bool, true, false, _&&_, _||_}
 use mathlib.Core.List.{List}
-use Prim.Native.Nat.{ℕ, zero, suc, _+_}
-use lib.Dec.{leb, ltb}
+use Prim.Native.Nat.{ℕ, zero, suc, _+_, _-_, _*_, _%_, _^_, _≤_, _<_}
+use lib.Dec.{leb, ltb, eqb}
 use lib.ListN.{getD}
 use Rattle.laws.specs.Tests.{pick}
-use Rattle.laws.specs.Live.{liveAt}
-use Rattle.buffer_pool.specs.declared.buffer_pool.BufferPool.{BufferPool}
+use Rattle.laws.specs.Live.{liveAt, lastLive}
+use Rattle.buffer_pool.specs.declared.buffer_pool.PoolFront.{PoolFront}
 use Rattle.buffer_pool.specs.declared.buffer_pool.PoolMode.{PoolMode}
 use Rattle.buffer_pool.specs.declared.buffer_pool.PoolMode.the-variants.{Back, Front, Alloc}
-use Rattle.buffer_pool.specs.declared.sound.Bounds.{Bounds}
-use Rattle.buffer_pool.specs.declared.sound.Passed.{Passed}
-use Rattle.buffer_pool.specs.Soundness.{backNumbers, frontNumbers, allocSound}
+use Rattle.buffer_pool.specs.declared.numbers.Numbers.{Numbers}
+use Rattle.buffer_pool.specs.declared.sound.RunEnd.{RunEnd}
+use Rattle.buffer_pool.specs.declared.sound.Span.{Span}
+use Rattle.buffer_pool.specs.Numbers.{bare}
+use Rattle.buffer_pool.specs.Soundness.{isCount, limited, framedWithin, backNumbers, allocSound}
 
--- a live slot up to `own` ends at or before the frame; one above `above` starts at or after `bytes`; any other may not live
-unfoldable pub beside : Bounds → ℕ → ℕ → ℕ → Bool
-beside b p start end = (leb p (b .own) && leb end (b .offset)) || (ltb (b .above) p && leb (b .bytes) start)
-
--- the bounds of each mode: in B every slot is measured against the frame, in A none is
-abbrev pub bounds : BufferPool → ℕ → ℕ → ℕ → ℕ → Bounds
-bounds r own offset above bytes =
-    record { most = r .«back_start» + r .«back_len»; capacity = r .capacity; own = own; offset = offset; above = above; bytes = bytes }
-
-unfoldable pub boundsOf : ℕ → PoolMode → BufferPool → Bounds
-boundsOf w Back r = bounds r w (r .«raw_offset») w 0
-boundsOf w (Front f) r = bounds r (f .len) (r .«raw_offset») (f .«back_start») (f .«byte_capacity»)
-boundsOf w Alloc r = bounds r 0 0 0 0
-
-abbrev pub passed : Bool → ℕ → Passed
-passed sound end = record { sound = sound; end = end }
-
--- is the live slot p from start to stop sound after a live slot that ends at end?
-unfoldable pub slotSound : Bounds → ℕ → ℕ → ℕ → ℕ → Bool
-slotSound b p start stop end =
-    leb p (b .most) && (leb end start && (ltb start stop && (leb stop (b .capacity) && beside b p start stop)))
-
--- one slot, of index i: is it sound, and the end of the last live slot so far
-unfoldable pub slotPass : ℕ → List ℕ → List ℕ → ℕ → Bounds → ℕ → ℕ → Passed
-slotPass w starts lengths live b i end =
+-- the k slots from index i on: each live one is not empty and starts at or after end, the end of the live one before it; and the last
+-- end is at most to
+unfoldable pub ordered : ℕ → List ℕ → List ℕ → ℕ → ℕ → ℕ → ℕ → ℕ → Bool
+ordered w starts lengths live zero i end to = leb end to
+ordered w starts lengths live (suc k) i end to =
     pick (liveAt w live (suc i))
-    (passed (slotSound b (suc i) (getD starts i 0) (getD starts i 0 + getD lengths i 0) end) (getD starts i 0 + getD lengths i 0))
-    (passed true end)
+    (ltb 0 (getD lengths i 0) && (leb end (getD starts i 0)
+    && ordered w starts lengths live k (suc i) (getD starts i 0 + getD lengths i 0) to))
+    (ordered w starts lengths live k (suc i) end to)
 
--- n slots from index i on
-unfoldable pub passes : ℕ → List ℕ → List ℕ → ℕ → Bounds → ℕ → ℕ → ℕ → Bool
-passes w starts lengths live b zero i end = true
-passes w starts lengths live b (suc n) i end =
-    pick (slotPass w starts lengths live b i end .sound) (passes w starts lengths live b n (suc i) (slotPass w starts lengths live b i end .end)) false
+-- the bits of the slots after index i, at the top of a word of 32 bits
+abbrev pub bitsAfter : ℕ → ℕ → ℕ → ℕ
+bitsAfter w live i = (live * 2 ^ (32 - w + i)) % 2 ^ 32
 
--- the test of the other numbers, by the mode: Soundness.antt's, without the slots
-unfoldable pub numbersSound : ℕ → PoolMode → BufferPool → Bool
-numbersSound w Back r = backNumbers w r
-numbersSound w (Front f) r = frontNumbers w r f
-numbersSound w Alloc r = allocSound r
+-- the slots from index first to i are in order and the last end is end: what is left decides
+pub record Passed (w : ℕ) (starts lengths : List ℕ) (live first from i end bits : ℕ) : Type 0 where
+  pub further : first ≤ i
+  pub within : i ≤ w
+  pub bits-are : bits ≡ bitsAfter w live i
+  pub rest-decides : (to : ℕ) → ordered w starts lengths live (w - first) first from to ≡ ordered w starts lengths live (w - i) i end to
+
+-- a run of live slots from index first on: one is not in order, or all are and the next slot is free
+pub record Runs (w : ℕ) (starts lengths : List ℕ) (live first from : ℕ) (r : RunEnd) : Type 0 where
+  pub fails : r .sound ≡ false → (to : ℕ) → ordered w starts lengths live (w - first) first from to ≡ false
+  pub passes : r .sound ≡ true → Passed w starts lengths live first from (r .next) (r .end) (r .bits)
+  pub ends : r .sound ≡ true → r .bits < 2147483648
+
+-- ---- The numbers, but for a front's
+
+-- the slot count is 8 or 16, and the live word has so many bits
+unfoldable pub wordFits : ℕ → ℕ → Bool
+wordFits w live = isCount w && ltb live (2 ^ w)
+
+-- the back lies in the slots
+unfoldable pub backWithin : Numbers → Bool
+backWithin n = ltb (n .«back_start») (n .slots) && leb (n .«back_start» + n .«back_len») (n .slots)
+
+-- a front's counts of slots
+unfoldable pub frontCounts : Numbers → PoolFront → Bool
+frontCounts n f =
+    eqb (n .«back_start» + n .«back_len») (n .slots) && (leb 1 (f .«back_start») && (leb (f .«back_start») (n .«back_start»)
+    && (leb (f .len) (f .«back_start») && eqb (n .used) (f .len))))
+
+unfoldable pub modeNumbers : PoolMode → Numbers → Bool
+modeNumbers Back n = backNumbers (n .slots) (bare n)
+modeNumbers (Front f) n = frontCounts n f
+modeNumbers Alloc n = allocSound (bare n)
+
+unfoldable pub numbersSound : Numbers → Bool
+numbersSound n = wordFits (n .slots) (n .live) && (backWithin n && modeNumbers (n .mode) n)
+
+-- ---- A front
+
+-- its frame lies in its bytes, and its live slots are some of those it has used, in order before the frame
+unfoldable pub frontOwn : Numbers → List ℕ → List ℕ → PoolFront → Bool
+frontOwn n starts lengths f =
+    eqb (n .cursor) 0 && (leb (f .«byte_capacity») (n .capacity)
+    && (framedWithin (bare n) (f .«byte_capacity») (ltb (f .len) (f .«back_start»))
+    && (leb (lastLive (n .slots) (n .live) (f .«back_start»)) (f .len)
+    && ordered (n .slots) starts lengths (n .live) (lastLive (n .slots) (n .live) (f .«back_start»)) 0 0 (n .«raw_offset»))))
+
+unfoldable pub ownSound : PoolMode → Numbers → List ℕ → List ℕ → Bool
+ownSound Back n starts lengths = true
+ownSound (Front f) n starts lengths = frontOwn n starts lengths f
+ownSound Alloc n starts lengths = true
+
+unfoldable pub frontSound : Numbers → List ℕ → List ℕ → Bool
+frontSound n starts lengths = numbersSound n && ownSound (n .mode) n starts lengths
+
+-- ---- The slots, and what is left of the numbers
+
+-- the memories are within the limit, the kept length is within the overflow, and a pool of no bytes has no slots in its back
+unfoldable pub bytesSound : Numbers → Bool
+bytesSound n =
+    limited (bare n) && (leb (n .kept) (n .overflow) && (ltb 0 (n .capacity) || eqb (n .«back_len») 0))
+
+-- the bytes that the slots from an index on lie in: in F those after its own
+unfoldable pub spanOf : PoolMode → Numbers → Span
+spanOf Back n = record { first = 0; from = 0; to = n .«raw_offset» }
+spanOf (Front f) n = record { first = f .«back_start»; from = f .«byte_capacity»; to = n .capacity }
+spanOf Alloc n = record { first = 0; from = 0; to = n .capacity }
+
+-- the slots up to the last live one, from the span's first on
+unfoldable pub orderedIn : Span → Numbers → List ℕ → List ℕ → Bool
+orderedIn g n starts lengths =
+    ordered (n .slots) starts lengths (n .live) (lastLive (n .slots) (n .live) (n .slots) - g .first) (g .first) (g .from) (g .to)
+
+unfoldable pub slotsSound : Numbers → List ℕ → List ℕ → Bool
+slotsSound n starts lengths =
+    bytesSound n && (leb (lastLive (n .slots) (n .live) (n .slots)) (n .«back_start» + n .«back_len»)
+    && orderedIn (spanOf (n .mode) n) n starts lengths)
+
+-- ---- The whole test
+
+unfoldable pub partsSound : Numbers → List ℕ → List ℕ → Bool
+partsSound n starts lengths = frontSound n starts lengths && slotsSound n starts lengths

@@ -1,6 +1,6 @@
 // The pool's record, its modes and what its calls answer (buffer_pool/mod.rs of the Rust).
 ghost use mathlib.Core.Path.{_≡_};
-ghost use Rattle.buffer_pool.specs.Record.{newRecord, placed, framed, withoutEntries};
+ghost use Rattle.buffer_pool.specs.Record.{newRecord, withoutEntries};
 ghost use Rattle.buffer_pool.specs.Values.{noPlace, noHandle, values};
 use crate::slice::Handle;
 
@@ -182,7 +182,7 @@ pub(crate) fn no_place() -> Place
 }
 
 // No handle: that of no slot.
-fn no_handle() -> Handle
+pub(crate) fn no_handle() -> Handle
     ensures { λ r. ⌜ r ≡ noHandle ⌝ }
 {
     Handle {
@@ -236,83 +236,6 @@ impl BufferPool {
             kept: 0,
             cursor: 0,
             reserved: 0,
-        }
-    }
-
-    // The record with another mode, back, count of used slots and frame start.
-    pub(crate) fn placed(
-        self,
-        mode: PoolMode,
-        back_start: usize,
-        back_len: usize,
-        used: usize,
-        raw_offset: u64,
-    ) -> Self
-        ensures { λ r. ⌜ r ≡ placed self mode «back_start» «back_len» used «raw_offset» ⌝ }
-    {
-        let starts = self.starts;
-        let lengths = self.lengths;
-        let serials = self.serials;
-        let callers = self.callers;
-        let given = self.given;
-        BufferPool {
-            capacity: self.capacity,
-            overflow: self.overflow,
-            slots: self.slots,
-            live: self.live,
-            starts: starts,
-            lengths: lengths,
-            serials: serials,
-            callers: callers,
-            given: given,
-            back_start: back_start,
-            back_len: back_len,
-            used: used,
-            raw_offset: raw_offset,
-            raw_len: self.raw_len,
-            mode: mode,
-            kept: self.kept,
-            cursor: self.cursor,
-            reserved: self.reserved,
-        }
-    }
-
-    // The record with other numbers of the frame, in both memories.
-    pub(crate) fn framed(
-        self,
-        mode: PoolMode,
-        raw_offset: u64,
-        raw_len: u64,
-        kept: u64,
-        cursor: u64,
-        reserved: u64,
-    ) -> Self
-        ensures { λ r. ⌜ r ≡ framed self mode «raw_offset» «raw_len» kept cursor reserved ⌝ }
-    {
-        let starts = self.starts;
-        let lengths = self.lengths;
-        let serials = self.serials;
-        let callers = self.callers;
-        let given = self.given;
-        BufferPool {
-            capacity: self.capacity,
-            overflow: self.overflow,
-            slots: self.slots,
-            live: self.live,
-            starts: starts,
-            lengths: lengths,
-            serials: serials,
-            callers: callers,
-            given: given,
-            back_start: self.back_start,
-            back_len: self.back_len,
-            used: self.used,
-            raw_offset: raw_offset,
-            raw_len: raw_len,
-            mode: mode,
-            kept: kept,
-            cursor: cursor,
-            reserved: reserved,
         }
     }
 

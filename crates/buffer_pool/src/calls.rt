@@ -1,156 +1,95 @@
 // The calls (SPECIFICATION 7). Each takes the record by value and both lent memories, refuses by the numbers and in the order of
-// SPECIFICATION 3.3 and 3.4 (1, 2, then its own), and gives the record back with the answer; a refused call changes nothing.
+// SPECIFICATION 3.3 and 3.4 (1, 2, then its own), and gives the record back with the answer; a refused call changes nothing. What a call
+// decides and moves is that of lent.rt; here its record is put together.
 ghost use mathlib.Core.Path.{_≡_};
 ghost use mathlib.Core.List.{[]};
-ghost use Prim.Native.Nat.{_+_, _-_, _≤_};
-ghost use lib.ListN.{length};
-ghost use Rattle.laws.specs.Lists.{copied, moved, zeroed};
+ghost use Rattle.buffer_pool.specs.Numbers.{withNumbers};
+ghost use Rattle.buffer_pool.specs.Lent as lent;
 ghost use Rattle.buffer_pool.specs.Moves.{memories};
-ghost use Rattle.buffer_pool.specs.Deciding as deciding;
-ghost use Rattle.buffer_pool.specs.Values.{refusal};
 ghost use Rattle.buffer_pool.specs.Steps as steps;
 ghost use Rattle.buffer_pool.specs.Calls as spec;
 use crate::buffer_pool::Answer;
 use crate::buffer_pool::BufferPool;
 use crate::buffer_pool::Called;
-use crate::buffer_pool::Place;
-use crate::buffer_pool::PoolMode;
-use crate::inner_memory::copy_between;
-use crate::inner_memory::copy_within;
+use crate::buffer_pool::View;
 use crate::inner_memory::fill_zero;
-use crate::performing::perform;
-use crate::placing::is_growing;
-use crate::placing::is_settled;
-use crate::placing::place;
-use crate::placing::starts_over;
+use crate::numbers::Numbers;
 use crate::refusals;
 use crate::slice::Handle;
 use crate::sound::is_count;
-use crate::steps;
 
-// What turns every call away: 1 if the record is unsound, 2 if a memory has another length than the record's, or 0.
-pub(crate) fn guard(p: BufferPool, pool: &[u8], overflow: &[u8]) -> u8
-    ensures { λ r. ⌜ r ≡ spec.cause (p .slots) p (memories (now (pool .entry)) (now (overflow .entry))) ⌝ }
-{
-    if !p.is_sound() {
-        return refusals::UNSOUND;
-    }
-    if pool.len() as u64 != p.capacity {
-        return refusals::WRONG_LENGTH;
-    }
-    if overflow.len() as u64 != p.overflow {
-        return refusals::WRONG_LENGTH;
-    }
-    0
-}
-
-// The reservation: after the frame, in the same memory.
-pub(crate) fn reservation(p: BufferPool) -> Place
-    requires { ⌜ steps.frameOf (p .mode) p .start + steps.frameOf (p .mode) p .length ≤ 18446744073709551615 ⌝ }
-    ensures { λ r. ⌜ r ≡ steps.reservation p ⌝ }
-{
-    let frame = steps::frame(p);
-    let memory = frame.memory;
-    Place {
-        memory: memory,
-        start: frame.start + frame.length,
-        length: p.reserved,
-    }
-}
-
-// The record after a reserve that changed the mode so often, and the reservation as the answer.
-fn reserved(p: BufferPool, changes: u32) -> Called
-    requires { ⌜ steps.frameOf (p .mode) p .start + steps.frameOf (p .mode) p .length ≤ 18446744073709551615 ⌝ }
-    ensures { λ r. ⌜ r ≡ steps.reserved p changes ⌝ }
+// A refused call leaves the record.
+fn refused(p: BufferPool, number: u8) -> Called
+    ensures { λ r. ⌜ r ≡ steps.refused p number ⌝ }
 {
     Called {
         pool: p,
-        answer: Answer::Reserved(reservation(p), changes),
+        answer: Answer::Refused(number),
     }
 }
 
-// The record with a reservation of `len` bytes after the frame.
-fn offered(p: BufferPool, len: u64) -> BufferPool
-    ensures { λ r. ⌜ r ≡ deciding.offered p len ⌝ }
+// What a reserve answers.
+fn reserved_answer(v: View, changes: u32) -> Answer
+    ensures { λ r. ⌜ r ≡ lent.reservedAnswer v changes ⌝ }
 {
-    let mut q = p;
-    q.reserved = len;
-    q
+    if v.number != 0 {
+        return Answer::Refused(v.number);
+    }
+    let place = v.place;
+    Answer::Reserved(place, changes)
 }
 
-// The frame of the overflow with a reservation that ends past the kept bytes: the bytes from there to its end are cleared and kept.
-fn grow(p: BufferPool, overflow: &mut [u8], len: u64) -> BufferPool
-    requires { ⌜ (p .kept ≤ p .cursor + len) × (p .cursor + len ≤ length (now overflow)) ⌝ }
-    ensures { λ r. ⌜ r ≡ deciding.offered (deciding.keptTo p (p .cursor + len)) len ⌝ }
-    ensures { λ _. ⌜ now (overflow .exit) ≡ zeroed (now (overflow .entry)) (p .kept) (p .cursor + len) ⌝ }
+// What a commit or a truncate answers.
+fn framed_answer(v: View) -> Answer
+    ensures { λ r. ⌜ r ≡ lent.framedAnswer v ⌝ }
 {
-    let end = p.cursor + len;
-    fill_zero(overflow, p.kept as usize, end as usize);
-    let mut q = p;
-    q.kept = end;
-    q.reserved = len;
-    q
+    if v.number != 0 {
+        return Answer::Refused(v.number);
+    }
+    let place = v.place;
+    Answer::Framed(place)
 }
 
-// The first `n` of the `kept` bytes of the overflow go to the destination's start, and the bytes after them down to 0: the
-// Rust's `split_off`.
-fn copy_out(overflow: &mut [u8], destination: &mut [u8], n: u64, kept: u64)
-    requires { ⌜ (n ≤ length (now destination)) × (n ≤ kept) × (kept ≤ length (now overflow)) ⌝ }
-    ensures { λ _. ⌜ now (destination .exit) ≡ copied (now (overflow .entry)) 0 n (now (destination .entry)) 0 ⌝ }
-    ensures { λ _. ⌜ now (overflow .exit) ≡ moved (now (overflow .entry)) n (kept - n) 0 ⌝ }
+// What a take answers.
+fn taken_answer(number: u8, copied: u64, h: Handle) -> Answer
+    ensures { λ r. ⌜ r ≡ lent.takenAnswer number copied h ⌝ }
 {
-    let first = n as usize;
-    let rest = (kept - n) as usize;
-    copy_between(overflow, 0, first, destination, 0);
-    copy_within(overflow, first, rest, 0);
-}
-
-// What turns a commit away: 1 or 2, 5 if `n` exceeds the reservation, or 0. The calls find their refusal first, so that a call has one
-// place where it refuses and one where it is done.
-fn commit_cause(p: BufferPool, pool: &[u8], overflow: &[u8], n: u64) -> u8
-    ensures { λ r. ⌜ r ≡ spec.numbered (p .slots) p (memories (now (pool .entry)) (now (overflow .entry))) (refusal (steps.commitStep p n .answer)) ⌝ }
-{
-    let number = guard(p, pool, overflow);
     if number != 0 {
-        return number;
+        return Answer::Refused(number);
     }
-    if p.reserved < n {
-        return refusals::COMMIT_TOO_LONG;
+    if h.slot == 0 {
+        return Answer::Copied(copied);
     }
-    0
+    Answer::Taken(h)
 }
 
-// What turns a take away: 1 or 2, 12 if the caller is above 3, 6 if the destination is too short for a frame of the overflow, 8 if
-// all serials are given to the caller, or 0.
-fn take_cause(p: BufferPool, pool: &[u8], overflow: &[u8], caller: u64, destination: u64) -> u8
-    ensures { λ r. ⌜ r ≡ spec.numbered (p .slots) p (memories (now (pool .entry)) (now (overflow .entry))) (refusal (steps.takeStep (p .slots) p caller destination .answer)) ⌝ }
+// What a release answers.
+fn released_answer(number: u8) -> Answer
+    ensures { λ r. ⌜ r ≡ lent.releasedAnswer number ⌝ }
 {
-    let number = guard(p, pool, overflow);
     if number != 0 {
-        return number;
+        return Answer::Refused(number);
     }
-    steps::take_refusal(p, caller, destination)
+    Answer::Done
 }
 
-// What turns a release away: 1 or 2, 7 if the handle names no live slice, or 0.
-fn release_cause(p: BufferPool, pool: &[u8], overflow: &[u8], h: Handle) -> u8
-    ensures { λ r. ⌜ r ≡ spec.numbered (p .slots) p (memories (now (pool .entry)) (now (overflow .entry))) (refusal (steps.releaseStep (p .slots) p h .answer)) ⌝ }
+// The record with other numbers.
+fn put(p: BufferPool, n: Numbers) -> BufferPool
+    ensures { λ r. ⌜ r ≡ withNumbers p n ⌝ }
 {
-    let number = guard(p, pool, overflow);
-    if number != 0 {
-        return number;
-    }
-    if !steps::names(p, h) {
-        return refusals::NOT_LIVE;
-    }
-    0
+    let starts = p.starts;
+    let lengths = p.lengths;
+    let serials = p.serials;
+    let callers = p.callers;
+    let given = p.given;
+    n.filled(starts, lengths, serials, callers, given)
 }
 
 // A refused new: the record of a new pool of the Rust's count of slots, whose two lengths are 0.
 fn new_refused(number: u8) -> Called
     ensures { λ r. ⌜ r ≡ spec.newRefusedBy number ⌝ }
 {
-    steps::refused(
+    refused(
         BufferPool::with_lengths(BufferPool::POOL_CAPACITY, 0, 0),
         number,
     )
@@ -184,31 +123,25 @@ impl BufferPool {
 
     // Room for `len` more bytes after the frame: gives the reservation's place and how often the mode changed. Refuses with 1, 2,
     // and with 4 if the overflow would be used and is too short for frame and reservation. Bytes move only once that is known.
-    // Most reserves that move no byte are found by a few tests and need no list of moves.
     pub fn reserve(self, pool: &mut [u8], overflow: &mut [u8], len: u64) -> Called
         ensures { λ r. ⌜ spec.outcome r (memories (now (pool .exit)) (now (overflow .exit))) [] ≡ spec.reserve (self .slots) self (memories (now (pool .entry)) (now (overflow .entry))) len ⌝ }
     {
-        let number = guard(self, pool, overflow);
-        if number != 0 {
-            return steps::refused(self, number);
+        let starts = self.starts;
+        let lengths = self.lengths;
+        let n = self.numbers();
+        let c = n.reserve(&starts, &lengths, pool, overflow, len);
+        let q = put(self, c.numbers);
+        let answer = reserved_answer(c.view, c.changes);
+        if c.clears {
+            return Called {
+                pool: q.without_entries(),
+                answer: answer,
+            };
         }
-        if is_settled(self, len) {
-            return reserved(offered(self, len), 0);
+        Called {
+            pool: q,
+            answer: answer,
         }
-        if starts_over(self, len) {
-            let start = self.placed(PoolMode::Back, 0, 0, 0, 0);
-            return reserved(offered(start, len), 0);
-        }
-        if is_growing(self, len) {
-            return reserved(grow(self, overflow, len), 0);
-        }
-        let d = place(self, len);
-        if d.too_long {
-            return steps::refused(self, refusals::OVERFLOW_TOO_SHORT);
-        }
-        let moves = d.moves;
-        perform(pool, overflow, moves);
-        reserved(d.pool, d.changes)
     }
 
     // The first `n` bytes of the reservation join the frame: gives the frame's place. Refuses with 1, 2, and with 5 if `n` exceeds
@@ -216,22 +149,36 @@ impl BufferPool {
     pub fn commit(self, pool: &[u8], overflow: &[u8], n: u64) -> Called
         ensures { λ r. ⌜ spec.outcome r (memories (now (pool .entry)) (now (overflow .entry))) [] ≡ spec.commit (self .slots) self (memories (now (pool .entry)) (now (overflow .entry))) n ⌝ }
     {
-        let number = commit_cause(self, pool, overflow, n);
-        if number != 0 {
-            return steps::refused(self, number);
+        let starts = self.starts;
+        let lengths = self.lengths;
+        let numbers = self.numbers();
+        let c = numbers.commit(&starts, &lengths, pool, overflow, n);
+        let mut q = self;
+        q.raw_len = c.raw_len;
+        q.cursor = c.cursor;
+        q.reserved = c.reserved;
+        Called {
+            pool: q,
+            answer: framed_answer(c.view),
         }
-        steps::commit_step(self, n)
     }
 
     // The frame keeps at most its first `n` bytes: gives the frame's place. Refuses with 1 and 2.
     pub fn truncate(self, pool: &[u8], overflow: &[u8], n: u64) -> Called
         ensures { λ r. ⌜ spec.outcome r (memories (now (pool .entry)) (now (overflow .entry))) [] ≡ spec.truncate (self .slots) self (memories (now (pool .entry)) (now (overflow .entry))) n ⌝ }
     {
-        let number = guard(self, pool, overflow);
-        if number != 0 {
-            return steps::refused(self, number);
+        let starts = self.starts;
+        let lengths = self.lengths;
+        let numbers = self.numbers();
+        let c = numbers.truncate(&starts, &lengths, pool, overflow, n);
+        let mut q = self;
+        q.raw_len = c.raw_len;
+        q.cursor = c.cursor;
+        q.reserved = c.reserved;
+        Called {
+            pool: q,
+            answer: framed_answer(c.view),
         }
-        steps::truncate_step(self, n)
     }
 
     // The frame is finished: gives the handle of a slice of the pool, with the caller's next serial, or copies a frame of the
@@ -247,28 +194,53 @@ impl BufferPool {
     ) -> Called
         ensures { λ r. ⌜ spec.outcome r (memories (now (pool .entry)) (now (overflow .exit))) (now (destination .exit)) ≡ spec.take (self .slots) self (memories (now (pool .entry)) (now (overflow .entry))) caller (now (destination .entry)) ⌝ }
     {
-        let number = take_cause(self, pool, overflow, caller, destination.len() as u64);
-        if number != 0 {
-            return steps::refused(self, number);
+        let mut starts = self.starts;
+        let mut lengths = self.lengths;
+        let mut serials = self.serials;
+        let mut callers = self.callers;
+        let mut given = self.given;
+        let n = self.numbers();
+        let c = n.take(
+            &starts,
+            &lengths,
+            &serials,
+            &callers,
+            &given,
+            pool,
+            overflow,
+            caller,
+            destination,
+        );
+        let e = c.entry;
+        let k = e.slot;
+        let i = e.caller;
+        starts[k] = e.start;
+        lengths[k] = e.length;
+        serials[k] = e.serial;
+        callers[k] = e.owner;
+        given[i] = e.given;
+        let m = c.numbers;
+        Called {
+            pool: m.filled(starts, lengths, serials, callers, given),
+            answer: taken_answer(c.number, c.copied, c.handle),
         }
-        let taken = steps::take_step(self, caller, destination.len() as u64);
-        let answer = taken.answer;
-        let n = answer.copied();
-        if n == 0 {
-            return taken;
-        }
-        copy_out(overflow, destination, n, self.kept);
-        taken
     }
 
     // The slot of the handle is free again. Refuses with 1, 2, and with 7 if the handle names no live slice.
     pub fn release(self, pool: &[u8], overflow: &[u8], h: Handle) -> Called
         ensures { λ r. ⌜ spec.outcome r (memories (now (pool .entry)) (now (overflow .entry))) [] ≡ spec.release (self .slots) self (memories (now (pool .entry)) (now (overflow .entry))) h ⌝ }
     {
-        let number = release_cause(self, pool, overflow, h);
-        if number != 0 {
-            return steps::refused(self, number);
+        let starts = self.starts;
+        let lengths = self.lengths;
+        let serials = self.serials;
+        let callers = self.callers;
+        let n = self.numbers();
+        let c = n.release(&starts, &lengths, &serials, &callers, pool, overflow, h);
+        let mut q = self;
+        q.live = c.live;
+        Called {
+            pool: q,
+            answer: released_answer(c.number),
         }
-        steps::release_step(self, h)
     }
 }

@@ -3,13 +3,15 @@
 // refused call changes nothing.
 pub mod buffer_pool;
 mod calls;
+mod guard;
 mod inner_memory;
-pub mod moves;
-mod performing;
+pub mod lent;
+pub mod numbers;
 mod placing;
 mod pool_back;
 mod pool_front;
 pub mod refusals;
+mod route;
 pub mod slice;
 pub mod sound;
 mod steps;

@@ -2,422 +2,447 @@
 // bytes are moved once the whole decision is known.
 ghost use mathlib.Core.Path.{_≡_};
 ghost use mathlib.Core.Bool.{true, false, _&&_};
-ghost use Prim.Native.Nat.{_+_, _*_, _≤_, _<_};
+ghost use Prim.Native.Nat.{_+_, _≤_, _<_};
 ghost use lib.Dec.{leb, ltb, eqb};
 ghost use Rattle.buffer_pool.specs.declared.buffer_pool.PoolMode.the-variants.{Back, Alloc};
-ghost use Rattle.buffer_pool.specs.Record.{placed};
-ghost use Rattle.buffer_pool.specs.Moves.{within};
-ghost use Rattle.buffer_pool.specs.MoveList.{listed};
+ghost use Rattle.buffer_pool.specs.Numbers.{plain, bare};
 ghost use Rattle.buffer_pool.specs.Placing as spec;
-ghost use Rattle.buffer_pool.specs.Deciding.{Worded, Placeable, Starts, Decides, layerOf, ahead, finished, following, keepsIn, fitsIn, settled, startsOver, growingHere, growing};
+ghost use Rattle.buffer_pool.specs.Deciding as deciding;
+ghost use Rattle.buffer_pool.specs.Deciding.{Worded, Placeable, Reaches, Decides, step, goneOut, layerOf, routeMoves, finishedOn, following, startOn, startOf, keepsIn, fitsIn, settled, startsOver, growingHere, growing};
 use crate::buffer_pool::BufferPool;
 use crate::buffer_pool::PoolMode;
+use crate::guard::entries;
 use crate::inner_memory::in_bounds;
 use crate::inner_memory::max;
-use crate::moves::MoveKind;
-use crate::moves::Moves;
+use crate::numbers::Numbers;
 use crate::pool_back;
 use crate::pool_front;
+use crate::route::Route;
 use crate::slice::leading;
 use crate::slice::trailing;
 
-// A clear that was tried: was it made, and the record after it, or the one before where it was not.
+// A clear that was tried: was it made, and the numbers after it, or those before where it was not.
 pub struct Cleared {
     pub cleared: bool,
-    pub pool: BufferPool,
+    pub numbers: Numbers,
 }
 
-// What one call of `reserve_` does: the mode keeps the frame, or it changes and the frame is placed again; `entered` says
-// that the overflow was entered just now.
+// What one call of `reserve_` does: the mode keeps the frame, or it changes and the frame is placed again; `entered` says that the
+// overflow was entered just now. The frame goes by `via` to where the numbers say, or out to the overflow.
 pub struct ModeStep {
     pub again: bool,
     pub entered: bool,
-    pub pool: BufferPool,
-    pub moves: Moves,
+    pub via: u64,
+    pub numbers: Numbers,
 }
 
-// The whole decision of a reserve: is the overflow too short for it? If not, the next record, the moves, the count of mode
-// changes, and whether the overflow is used.
+// The whole decision of a reserve: is the overflow too short for it? If not, the next numbers, the count of mode changes, the length
+// kept of the overflow before it grows, and the frame's way.
 pub struct Decided {
     pub too_long: bool,
-    pub pool: BufferPool,
-    pub moves: Moves,
+    pub numbers: Numbers,
     pub changes: u32,
-    pub heap: bool,
+    pub kept: u64,
+    pub route: Route,
 }
 
-// What a reserve starts from after a reset: the record and the moves.
+// What a reserve starts from after a reset: the numbers, whether the frame is brought in from the overflow, and whether the starts and
+// lengths of all slots become 0.
 pub struct Start {
-    pub pool: BufferPool,
-    pub moves: Moves,
+    pub numbers: Numbers,
+    pub brought: bool,
+    pub clears: bool,
 }
 
 // The mode keeps the frame.
-pub(crate) fn stay(p: BufferPool, moves: Moves) -> ModeStep
-    ensures { λ r. ⌜ (layerOf r ≡ spec.stay (p .mode) p (listed moves)) × (r .moves .count ≡ moves .count) ⌝ }
+pub(crate) fn stay(via: u64, n: Numbers) -> ModeStep
+    ensures { λ r. ⌜ r ≡ step false false via n ⌝ }
 {
     ModeStep {
         again: false,
         entered: false,
-        pool: p,
-        moves: moves,
+        via: via,
+        numbers: n,
     }
 }
 
 // The mode changes, to the back or to the front.
-pub(crate) fn change(p: BufferPool, moves: Moves) -> ModeStep
-    ensures { λ r. ⌜ (layerOf r ≡ spec.change false p (listed moves)) × (r .moves .count ≡ moves .count) ⌝ }
+pub(crate) fn change(via: u64, n: Numbers) -> ModeStep
+    ensures { λ r. ⌜ r ≡ step true false via n ⌝ }
 {
     ModeStep {
         again: true,
         entered: false,
-        pool: p,
-        moves: moves,
+        via: via,
+        numbers: n,
     }
 }
 
 // The frame goes to the overflow's start: `copy_into_buffer` and `reset_raw`.
-pub(crate) fn go_out(p: BufferPool, moves: Moves) -> ModeStep
-    requires { ⌜ (p .cursor ≡ 0) × (moves .count < 7) ⌝ }
-    ensures { λ r. ⌜ (layerOf r ≡ spec.goOut p (listed moves)) × (r .moves .count ≡ moves .count + 1) ⌝ }
+pub(crate) fn go_out(n: Numbers) -> ModeStep
+    requires { ⌜ n .cursor ≡ 0 ⌝ }
+    ensures { λ r. ⌜ r ≡ goneOut n ⌝ }
 {
-    let raw_len = p.raw_len;
-    let kept = max(p.kept, raw_len);
+    let raw_len = n.raw_len;
+    let kept = max(n.kept, raw_len);
     ModeStep {
         again: true,
         entered: true,
-        pool: p.framed(PoolMode::Alloc, 0, 0, kept, raw_len, p.reserved),
-        moves: moves.push(MoveKind::Out, p.raw_offset, raw_len, 0),
+        via: n.raw_offset,
+        numbers: n.framed(PoolMode::Alloc, 0, 0, kept, raw_len, n.reserved),
     }
 }
 
-// Does the overflow keep the frame? It does if it was entered just now, if the frame is not empty, or if the back has no
-// slots or no tail to clear.
-fn stays(p: BufferPool, entered: bool) -> bool
-    requires { ⌜ (Worded p) × (p .«back_start» + p .«back_len» ≤ p .slots) ⌝ }
-    ensures { λ r. ⌜ r ≡ spec.stays (p .slots) entered p ⌝ }
+// Does the overflow keep a frame that did not enter it just now? It does if the frame is not empty, or if the back has no slots or no
+// tail to clear.
+fn stays(n: Numbers) -> bool
+    requires { ⌜ (Worded (bare n)) × (n .«back_start» + n .«back_len» ≤ n .slots) ⌝ }
+    ensures { λ r. ⌜ r ≡ spec.stays (n .slots) false (bare n) ⌝ }
 {
-    if entered {
+    if 0 < n.cursor {
         return true;
     }
-    if 0 < p.cursor {
+    if n.back_len == 0 {
         return true;
     }
-    if p.back_len == 0 {
-        return true;
-    }
-    !pool_back::tail_is_clearable(p)
+    !pool_back::tail_is_clearable(n)
 }
 
 // A frame that is in the overflow: it stays, or the tail or the head is cleared for it.
-fn reserve_from_system_memory(p: BufferPool, entered: bool, moves: Moves, len: u64) -> ModeStep
-    requires { ⌜ (p .mode ≡ Alloc) × (Worded p) × (p .«back_start» + p .«back_len» ≤ p .slots) ⌝ }
-    ensures { λ r. ⌜ (layerOf r ≡ ahead (listed moves) (spec.allocLayer (p .slots) entered p len)) × (r .moves .count ≡ moves .count) ⌝ }
+fn reserve_from_system_memory<'a>(
+    n: Numbers,
+    starts: &'a [u32; BufferPool::MOST_SLOTS],
+    lengths: &'a [u32; BufferPool::MOST_SLOTS],
+    len: u64,
+) -> ModeStep
+    requires { ⌜ (n .mode ≡ Alloc) × (Worded (bare n)) × (n .«back_start» + n .«back_len» ≤ n .slots) × (n .«raw_len» ≡ 0) ⌝ }
+    ensures { λ r. ⌜ layerOf (now (starts .entry)) (now (lengths .entry)) n r ≡ spec.allocLayer (n .slots) false (plain n (now (starts .entry)) (now (lengths .entry))) len ⌝ }
 {
-    if stays(p, entered) {
-        return stay(p, moves);
+    let start = n.raw_offset;
+    if stays(n) {
+        return stay(start, n);
     }
-    let tail = pool_back::try_clear_tail_unchecked(p, len);
+    let tail = pool_back::try_clear_tail_unchecked(n, starts, lengths, len);
     if tail.cleared {
-        return change(tail.pool, moves);
+        return change(start, tail.numbers);
     }
-    let head = pool_back::try_clear_head(p);
+    let head = pool_back::try_clear_head(n, starts);
     if head.cleared {
-        return change(head.pool, moves);
+        return change(start, head.numbers);
     }
-    stay(p, moves)
+    stay(start, n)
 }
 
 // One call of `reserve_`, in the mode that the pool is in.
-fn mode_step(p: BufferPool, entered: bool, moves: Moves, len: u64) -> ModeStep
-    requires { ⌜ (Placeable (p .slots) p) × (moves .count < 6) ⌝ }
-    ensures { λ r. ⌜ (layerOf r ≡ ahead (listed moves) (spec.layer (p .slots) entered (p .mode) p len)) × (r .moves .count ≤ moves .count + 2) ⌝ }
+fn mode_step<'a>(
+    n: Numbers,
+    starts: &'a [u32; BufferPool::MOST_SLOTS],
+    lengths: &'a [u32; BufferPool::MOST_SLOTS],
+    len: u64,
+) -> ModeStep
+    requires { ⌜ Placeable (n .slots) (bare n) ⌝ }
+    ensures { λ r. ⌜ layerOf (now (starts .entry)) (now (lengths .entry)) n r ≡ spec.layer (n .slots) false (n .mode) (plain n (now (starts .entry)) (now (lengths .entry))) len ⌝ }
 {
-    let mode = p.mode;
+    let mode = n.mode;
     match mode {
-        PoolMode::Back => pool_back::reserve(p, moves, len),
-        PoolMode::Front(f) => pool_front::reserve(p, f, moves, len),
-        PoolMode::Alloc => reserve_from_system_memory(p, entered, moves, len),
+        PoolMode::Back => pool_back::reserve(n, starts, lengths, len),
+        PoolMode::Front(f) => pool_front::reserve(n, starts, lengths, f, len),
+        PoolMode::Alloc => reserve_from_system_memory(n, starts, lengths, len),
     }
 }
 
-// The reservation of `len` bytes in the overflow, which grows with zeros where it must.
-fn finish_in_overflow(p: BufferPool, moves: Moves, changes: u32, len: u64) -> Decided
-    requires { ⌜ (p .mode ≡ Alloc) × (moves .count < 7) ⌝ }
-    ensures { λ r. ⌜ Decides r (following (listed moves) changes (finished p len)) len ⌝ }
+// The reservation of `len` bytes in the overflow, which grows where it must.
+fn finish_in_overflow(n: Numbers, route: Route, changes: u32, len: u64) -> Decided
+    ensures { λ r. ⌜ r ≡ finishedOn Alloc n route changes len ⌝ }
 {
-    let overflow = p.overflow;
-    let cursor = p.cursor;
-    let kept = p.kept;
-    if overflow < cursor {
+    let cursor = n.cursor;
+    let kept = n.kept;
+    if !in_bounds(n.overflow, cursor, len, 0) {
         return Decided {
             too_long: true,
-            pool: p,
-            moves: moves,
+            numbers: n,
             changes: changes,
-            heap: true,
+            kept: kept,
+            route: route,
         };
     }
-    if overflow - cursor < len {
-        return Decided {
-            too_long: true,
-            pool: p,
-            moves: moves,
-            changes: changes,
-            heap: true,
-        };
-    }
-    let end = cursor + len;
-    if end <= kept {
-        return Decided {
-            too_long: false,
-            pool: p.framed(PoolMode::Alloc, p.raw_offset, p.raw_len, kept, cursor, len),
-            moves: moves,
-            changes: changes,
-            heap: true,
-        };
-    }
+    let end = max(kept, cursor + len);
     Decided {
         too_long: false,
-        pool: p.framed(PoolMode::Alloc, p.raw_offset, p.raw_len, end, cursor, len),
-        moves: moves.push(MoveKind::Grow, kept, end, 0),
+        numbers: n.framed(PoolMode::Alloc, n.raw_offset, n.raw_len, end, cursor, len),
         changes: changes,
-        heap: true,
+        kept: kept,
+        route: route,
     }
 }
 
 // The reservation of `len` bytes in the pool.
-fn finish_in_pool(p: BufferPool, moves: Moves, changes: u32, len: u64) -> Decided
-    requires { ⌜ spec.isAlloc (p .mode) ≡ false ⌝ }
-    ensures { λ r. ⌜ Decides r (following (listed moves) changes (finished p len)) len ⌝ }
+fn finish_in_pool(n: Numbers, route: Route, changes: u32, len: u64) -> Decided
+    ensures { λ r. ⌜ r ≡ finishedOn Back n route changes len ⌝ }
 {
-    let mode = p.mode;
+    let mode = n.mode;
     Decided {
         too_long: false,
-        pool: p.framed(mode, p.raw_offset, p.raw_len, p.kept, p.cursor, len),
-        moves: moves,
+        numbers: n.framed(mode, n.raw_offset, n.raw_len, n.kept, n.cursor, len),
         changes: changes,
-        heap: false,
+        kept: n.kept,
+        route: route,
     }
 }
 
 // The reservation of `len` bytes where the frame lies.
-fn finish(p: BufferPool, moves: Moves, changes: u32, len: u64) -> Decided
-    requires { ⌜ moves .count < 7 ⌝ }
-    ensures { λ r. ⌜ Decides r (following (listed moves) changes (finished p len)) len ⌝ }
+fn finish(n: Numbers, route: Route, changes: u32, len: u64) -> Decided
+    ensures { λ r. ⌜ r ≡ finishedOn (n .mode) n route changes len ⌝ }
 {
-    let mode = p.mode;
+    let mode = n.mode;
     match mode {
-        PoolMode::Back => finish_in_pool(p, moves, changes, len),
-        PoolMode::Front(_) => finish_in_pool(p, moves, changes, len),
-        PoolMode::Alloc => finish_in_overflow(p, moves, changes, len),
+        PoolMode::Back => finish_in_pool(n, route, changes, len),
+        PoolMode::Front(_) => finish_in_pool(n, route, changes, len),
+        PoolMode::Alloc => finish_in_overflow(n, route, changes, len),
     }
 }
 
-// The decision with so many mode changes still allowed: `reserve_`, which calls itself after each change.
-fn reserve_(
-    p: BufferPool,
+// The decision with so many mode changes still allowed: `reserve_`, which calls itself after each change. A frame that entered the
+// overflow just now stays there.
+fn reserve_<'a>(
+    n: Numbers,
+    starts: &'a [u32; BufferPool::MOST_SLOTS],
+    lengths: &'a [u32; BufferPool::MOST_SLOTS],
     entered: bool,
-    moves: Moves,
+    route: Route,
     changes: u32,
     left: u32,
     len: u64,
 ) -> Decided
-    requires { ⌜ (Placeable (p .slots) p) × (moves .count + 2 * left < 7) × (changes + left ≤ 2) ⌝ }
-    ensures { λ r. ⌜ Decides r (following (listed moves) changes (spec.placeOf (p .slots) left entered (p .mode) p len)) len ⌝ }
+    requires { ⌜ (Placeable (n .slots) (bare n)) × (changes + left ≡ 2) × (entered ≡ false → changes < 2 → Reaches route changes n) × (entered ≡ true → n .mode ≡ Alloc) ⌝ }
+    ensures { λ r. ⌜ Decides (now (starts .entry)) (now (lengths .entry)) r (following (routeMoves route) changes (spec.placeOf (n .slots) left entered (n .mode) (plain n (now (starts .entry)) (now (lengths .entry))) len)) len ⌝ }
 {
     if left == 0 {
-        return finish(p, moves, changes, len);
+        return finish(n, route, changes, len);
     }
-    let step = mode_step(p, entered, moves, len);
+    if entered {
+        return finish(n, route, changes, len);
+    }
+    let step = mode_step(n, starts, lengths, len);
+    let m = step.numbers;
+    let on = route.on(changes, step.via, step.entered, m.raw_offset);
     if step.again {
         return reserve_(
-            step.pool,
+            m,
+            starts,
+            lengths,
             step.entered,
-            step.moves,
+            on,
             changes + 1,
             left - 1,
             len,
         );
     }
-    finish(step.pool, step.moves, changes, len)
+    finish(m, on, changes, len)
 }
 
 // Does a reserve begin with a reset? It does where no slot is live and either the back has slots or the overflow's frame is
 // empty.
-fn resets(p: BufferPool) -> bool
-    ensures { λ r. ⌜ r ≡ spec.resets p ⌝ }
+fn resets(n: Numbers) -> bool
+    ensures { λ r. ⌜ r ≡ spec.resets (bare n) ⌝ }
 {
-    if p.live != 0 {
+    if n.live != 0 {
         return false;
     }
-    if p.back_len != 0 {
+    if n.back_len != 0 {
         return true;
     }
-    let mode = p.mode;
+    let mode = n.mode;
     match mode {
         PoolMode::Back => false,
         PoolMode::Front(_) => false,
-        PoolMode::Alloc => p.cursor == 0,
+        PoolMode::Alloc => n.cursor == 0,
     }
 }
 
 // The reset of a pool whose frame is in the pool: to its start, in the back.
-fn reset_in_pool(p: BufferPool) -> Start
-    ensures { λ r. ⌜ Starts r (placed p Back 0 0 0 0) (within (p .«raw_offset») (p .«raw_len») 0) ⌝ }
+fn reset_in_pool(n: Numbers) -> Start
+    ensures { λ r. ⌜ r ≡ startOn true (ltb (n .cursor) (n .capacity)) (eqb (n .cursor) 0) Back n ⌝ }
 {
     Start {
-        pool: p.placed(PoolMode::Back, 0, 0, 0, 0),
-        moves: Moves::none().within(p.raw_offset, p.raw_len, 0),
+        numbers: n.placed(PoolMode::Back, 0, 0, 0, 0),
+        brought: false,
+        clears: false,
     }
 }
 
 // The reset of a pool whose frame is in the overflow: to the pool's start, if it is strictly shorter than the pool.
-fn reset_in_overflow(p: BufferPool) -> Start
-    requires { ⌜ p .cursor ≤ p .kept ⌝ }
-    ensures { λ r. ⌜ Starts r (spec.resetOn true (ltb (p .cursor) (p .capacity)) (eqb (p .cursor) 0) Alloc p) (spec.resetMoves true (ltb (p .cursor) (p .capacity)) (eqb (p .cursor) 0) Alloc p) ⌝ }
+fn reset_in_overflow(n: Numbers) -> Start
+    requires { ⌜ n .cursor ≤ n .kept ⌝ }
+    ensures { λ r. ⌜ r ≡ startOn true (ltb (n .cursor) (n .capacity)) (eqb (n .cursor) 0) Alloc n ⌝ }
 {
-    let cursor = p.cursor;
-    if p.capacity <= cursor {
+    let cursor = n.cursor;
+    if n.capacity <= cursor {
         return Start {
-            pool: p.placed(PoolMode::Alloc, p.back_start, p.back_len, 0, p.raw_offset),
-            moves: Moves::none(),
+            numbers: n.placed(PoolMode::Alloc, n.back_start, n.back_len, 0, n.raw_offset),
+            brought: false,
+            clears: false,
         };
     }
-    let q = p.placed(PoolMode::Back, 0, 0, 0, 0);
+    let m = n.placed(PoolMode::Back, 0, 0, 0, 0);
     if cursor == 0 {
         return Start {
-            pool: q.without_entries(),
-            moves: Moves::none(),
+            numbers: m,
+            brought: false,
+            clears: true,
         };
     }
-    let rest = p.kept - cursor;
-    let moves = Moves::none().push(MoveKind::In, cursor, 0, 0);
+    let rest = n.kept - cursor;
     Start {
-        pool: q.framed(PoolMode::Back, 0, cursor, rest, 0, p.reserved),
-        moves: moves.push(MoveKind::Down, cursor, rest, 0),
+        numbers: m.framed(PoolMode::Back, 0, cursor, rest, 0, n.reserved),
+        brought: true,
+        clears: false,
     }
 }
 
 // The reset, by the mode that the pool is in.
-fn reset(p: BufferPool) -> Start
-    requires { ⌜ (spec.isAlloc (p .mode) ≡ true → p .cursor ≤ p .kept) ⌝ }
-    ensures { λ r. ⌜ Starts r (spec.resetOn true (ltb (p .cursor) (p .capacity)) (eqb (p .cursor) 0) (p .mode) p) (spec.resetMoves true (ltb (p .cursor) (p .capacity)) (eqb (p .cursor) 0) (p .mode) p) ⌝ }
+fn reset(n: Numbers) -> Start
+    requires { ⌜ (spec.isAlloc (n .mode) ≡ true → n .cursor ≤ n .kept) ⌝ }
+    ensures { λ r. ⌜ r ≡ startOn true (ltb (n .cursor) (n .capacity)) (eqb (n .cursor) 0) (n .mode) n ⌝ }
 {
-    let mode = p.mode;
+    let mode = n.mode;
     match mode {
-        PoolMode::Back => reset_in_pool(p),
-        PoolMode::Front(_) => reset_in_pool(p),
-        PoolMode::Alloc => reset_in_overflow(p),
+        PoolMode::Back => reset_in_pool(n),
+        PoolMode::Front(_) => reset_in_pool(n),
+        PoolMode::Alloc => reset_in_overflow(n),
     }
 }
 
-// Does the frame fit where it is, in its mode? In the overflow, within the kept bytes.
-fn fits(p: BufferPool, len: u64) -> bool
-    requires { ⌜ (Worded p) × (p .«back_start» + p .«back_len» ≤ p .slots) ⌝ }
-    ensures { λ r. ⌜ r ≡ fitsIn (p .mode) (p .slots) p len ⌝ }
+// Where a reserve starts: after a reset, if it begins with one.
+pub(crate) fn begin(n: Numbers) -> Start
+    requires { ⌜ (spec.isAlloc (n .mode) ≡ true → n .cursor ≤ n .kept) ⌝ }
+    ensures { λ r. ⌜ r ≡ startOf n ⌝ }
 {
-    let mode = p.mode;
-    match mode {
-        PoolMode::Back => pool_back::back_fits(p, len),
-        PoolMode::Front(f) => pool_front::front_fits(p, f, len),
-        PoolMode::Alloc => kept_fits(p, len),
+    if resets(n) {
+        return reset(n);
+    }
+    Start {
+        numbers: n,
+        brought: false,
+        clears: false,
     }
 }
 
 // Does the overflow keep the frame? It does if it stays, or if the first and the last slot live, so that no clear can succeed.
-fn keeps(p: BufferPool) -> bool
-    requires { ⌜ (Worded p) × (p .«back_start» + p .«back_len» ≤ p .slots) ⌝ }
-    ensures { λ r. ⌜ r ≡ keepsIn (p .slots) p ⌝ }
+fn keeps(n: Numbers) -> bool
+    requires { ⌜ (Worded (bare n)) × (n .«back_start» + n .«back_len» ≤ n .slots) ⌝ }
+    ensures { λ r. ⌜ r ≡ keepsIn (n .slots) (bare n) ⌝ }
 {
-    if stays(p, false) {
+    if stays(n) {
         return true;
     }
-    if leading(p.slots, p.live) != 0 {
+    if leading(n.slots, n.live) != 0 {
         return false;
     }
-    trailing(p.slots, p.live) == 0
+    trailing(n.slots, n.live) == 0
 }
 
 // Does the overflow keep the frame, with `len` bytes after it that are kept?
-fn kept_fits(p: BufferPool, len: u64) -> bool
-    requires { ⌜ (Worded p) × (p .«back_start» + p .«back_len» ≤ p .slots) ⌝ }
-    ensures { λ r. ⌜ r ≡ (keepsIn (p .slots) p && leb (p .cursor + len + 0) (p .kept)) ⌝ }
+fn kept_fits(n: Numbers, len: u64) -> bool
+    requires { ⌜ (Worded (bare n)) × (n .«back_start» + n .«back_len» ≤ n .slots) ⌝ }
+    ensures { λ r. ⌜ r ≡ (keepsIn (n .slots) (bare n) && leb (n .cursor + len + 0) (n .kept)) ⌝ }
 {
-    if !keeps(p) {
+    if !keeps(n) {
         return false;
     }
-    in_bounds(p.kept, p.cursor, len, 0)
+    in_bounds(n.kept, n.cursor, len, 0)
+}
+
+// Does the frame fit where it is, in its mode? In the overflow, within the kept bytes.
+fn fits(n: Numbers, len: u64) -> bool
+    requires { ⌜ (Worded (bare n)) × (n .«back_start» + n .«back_len» ≤ n .slots) ⌝ }
+    ensures { λ r. ⌜ r ≡ fitsIn (n .mode) (n .slots) (bare n) len ⌝ }
+{
+    let mode = n.mode;
+    match mode {
+        PoolMode::Back => pool_back::back_fits(n, len),
+        PoolMode::Front(f) => pool_front::front_fits(n, f, len),
+        PoolMode::Alloc => kept_fits(n, len),
+    }
 }
 
 // Does the frame stay where it is, with no reset? Then a reserve moves no byte.
-pub(crate) fn is_settled(p: BufferPool, len: u64) -> bool
-    requires { ⌜ (Worded p) × (p .«back_start» + p .«back_len» ≤ p .slots) ⌝ }
-    ensures { λ r. ⌜ r ≡ settled (p .slots) p len ⌝ }
+pub(crate) fn is_settled(n: Numbers, len: u64) -> bool
+    requires { ⌜ (Worded (bare n)) × (n .«back_start» + n .«back_len» ≤ n .slots) ⌝ }
+    ensures { λ r. ⌜ r ≡ settled (n .slots) (bare n) len ⌝ }
 {
-    if resets(p) {
+    if resets(n) {
         return false;
     }
-    fits(p, len)
+    fits(n, len)
 }
 
 // Does a reserve begin with a reset of an empty frame in the pool, and fit? Then it moves no byte.
-pub(crate) fn starts_over(p: BufferPool, len: u64) -> bool
-    ensures { λ r. ⌜ r ≡ startsOver p len ⌝ }
+pub(crate) fn starts_over(n: Numbers, len: u64) -> bool
+    ensures { λ r. ⌜ r ≡ startsOver (bare n) len ⌝ }
 {
-    if !resets(p) {
+    if !resets(n) {
         return false;
     }
-    if p.raw_len != 0 {
+    if n.raw_len != 0 {
         return false;
     }
-    let mode = p.mode;
+    let mode = n.mode;
     match mode {
-        PoolMode::Back => len <= p.capacity,
-        PoolMode::Front(_) => len <= p.capacity,
+        PoolMode::Back => len <= n.capacity,
+        PoolMode::Front(_) => len <= n.capacity,
         PoolMode::Alloc => false,
     }
 }
 
-// Does the frame stay in the overflow, with no reset, and need zeros after the kept bytes, which the overflow has room for? Then a
-// reserve moves no byte and clears some.
-pub(crate) fn is_growing(p: BufferPool, len: u64) -> bool
-    requires { ⌜ (Worded p) × (p .«back_start» + p .«back_len» ≤ p .slots) ⌝ }
-    ensures { λ r. ⌜ r ≡ growing (p .slots) p len ⌝ }
+// Does the overflow keep the frame, with `len` bytes after it that end past the kept ones and within the overflow?
+fn grows_here(n: Numbers, len: u64) -> bool
+    requires { ⌜ (Worded (bare n)) × (n .«back_start» + n .«back_len» ≤ n .slots) ⌝ }
+    ensures { λ r. ⌜ r ≡ growingHere (n .slots) (bare n) len ⌝ }
 {
-    if resets(p) {
+    if !keeps(n) {
         return false;
     }
-    let mode = p.mode;
+    if !in_bounds(n.overflow, n.cursor, len, 0) {
+        return false;
+    }
+    !in_bounds(n.kept, n.cursor, len, 0)
+}
+
+// Does the frame stay in the overflow, with no reset, and need zeros after the kept bytes, which the overflow has room for? Then a
+// reserve moves no byte and clears some.
+pub(crate) fn is_growing(n: Numbers, len: u64) -> bool
+    requires { ⌜ (Worded (bare n)) × (n .«back_start» + n .«back_len» ≤ n .slots) ⌝ }
+    ensures { λ r. ⌜ r ≡ growing (n .slots) (bare n) len ⌝ }
+{
+    if resets(n) {
+        return false;
+    }
+    let mode = n.mode;
     match mode {
         PoolMode::Back => false,
         PoolMode::Front(_) => false,
-        PoolMode::Alloc => grows_here(p, len),
+        PoolMode::Alloc => grows_here(n, len),
     }
 }
 
-// Does the overflow keep the frame, with `len` bytes after it that end past the kept ones and within the overflow?
-fn grows_here(p: BufferPool, len: u64) -> bool
-    requires { ⌜ (Worded p) × (p .«back_start» + p .«back_len» ≤ p .slots) ⌝ }
-    ensures { λ r. ⌜ r ≡ growingHere (p .slots) p len ⌝ }
+// The whole decision of a reserve of `len` bytes, from where it starts.
+pub(crate) fn place<'a>(
+    start: Start,
+    starts: &'a [u32; BufferPool::MOST_SLOTS],
+    lengths: &'a [u32; BufferPool::MOST_SLOTS],
+    len: u64,
+) -> Decided
+    requires { ⌜ Placeable (start .numbers .slots) (bare (start .numbers)) ⌝ }
+    ensures { λ r. ⌜ Decides (deciding.entries start (now (starts .entry))) (deciding.entries start (now (lengths .entry))) r (spec.placeOf (start .numbers .slots) 2 false (start .numbers .mode) (plain (start .numbers) (deciding.entries start (now (starts .entry))) (deciding.entries start (now (lengths .entry)))) len) len ⌝ }
 {
-    if !keeps(p) {
-        return false;
+    let n = start.numbers;
+    let route = Route::at(n.raw_offset, n.raw_len);
+    if start.clears {
+        entries(*starts);
+        entries(*lengths);
+        let none = [0u32; BufferPool::MOST_SLOTS];
+        return reserve_(n, &none, &none, false, route, 0, 2, len);
     }
-    if !in_bounds(p.overflow, p.cursor, len, 0) {
-        return false;
-    }
-    !in_bounds(p.kept, p.cursor, len, 0)
-}
-
-// The whole decision of a reserve of `len` bytes.
-pub(crate) fn place(p: BufferPool, len: u64) -> Decided
-    requires { ⌜ (Placeable (p .slots) p) × (spec.isAlloc (p .mode) ≡ true → p .cursor ≤ p .kept) ⌝ }
-    ensures { λ r. ⌜ Decides r (spec.place (p .slots) p len) len ⌝ }
-{
-    if resets(p) {
-        let start = reset(p);
-        return reserve_(start.pool, false, start.moves, 0, 2, len);
-    }
-    reserve_(p, false, Moves::none(), 0, 2, len)
+    reserve_(n, starts, lengths, false, route, 0, 2, len)
 }

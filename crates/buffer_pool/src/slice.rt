@@ -1,6 +1,6 @@
 // A slice living in the pool, and the marks of the live ones (slice.rs of the Rust).
 ghost use mathlib.Core.Path.{_≡_};
-ghost use Prim.Native.Nat.{_≤_, _<_, _^_};
+ghost use Prim.Native.Nat.{_-_, _/_, _≤_, _<_, _^_};
 ghost use lib.Count.{leadingZeros, trailingZeros};
 ghost use Rattle.laws.specs.Live.{slotMask, claimed, released, liveAt, lastLive};
 ghost use Rattle.buffer_pool.specs.Record.{mostSlots};
@@ -74,7 +74,15 @@ pub(crate) fn trailing(slots: usize, live: u16) -> usize
     z
 }
 
-// The last live slot of those up to `back`, and 0 where none of them is live: their bits, shifted down, tell it.
+// The bits of the slots up to `back`, shifted down.
+pub(crate) fn front_bits(slots: usize, live: u16, back: usize) -> u16
+    requires { ⌜ (1 ≤ back) × (back ≤ slots) × (slots ≤ mostSlots) × (live < 2 ^ slots) ⌝ }
+    ensures { λ r. ⌜ (r ≡ live / 2 ^ (slots - back)) × (r < 2 ^ back) ⌝ }
+{
+    live >> (slots - back)
+}
+
+// The last live slot of those up to `back`, and 0 where none of them is live: the zeros below their bits tell it.
 pub(crate) fn last_front(slots: usize, live: u16, back: usize) -> usize
     requires { ⌜ (back ≤ slots) × (slots ≤ mostSlots) × (live < 2 ^ slots) ⌝ }
     ensures { λ r. ⌜ (r ≡ lastLive slots live back) × (r ≤ back) ⌝ }
@@ -82,7 +90,7 @@ pub(crate) fn last_front(slots: usize, live: u16, back: usize) -> usize
     if back == 0 {
         return 0;
     }
-    let front = live >> (slots - back);
+    let front = front_bits(slots, live, back);
     if front == 0 {
         return 0;
     }

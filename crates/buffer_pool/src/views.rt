@@ -13,32 +13,7 @@ use crate::buffer_pool::BufferPool;
 use crate::buffer_pool::Memory;
 use crate::buffer_pool::Place;
 use crate::buffer_pool::View;
-use crate::buffer_pool::no_place;
-use crate::calls::guard;
-use crate::calls::reservation;
-use crate::refusals;
 use crate::slice::Handle;
-use crate::steps;
-
-// A refused view.
-fn hidden(number: u8) -> View
-    ensures { λ r. ⌜ r ≡ spec.hidden number ⌝ }
-{
-    View {
-        number: number,
-        place: no_place(),
-    }
-}
-
-// A view that is not refused.
-fn shown(place: Place) -> View
-    ensures { λ r. ⌜ r ≡ spec.shown place ⌝ }
-{
-    View {
-        number: 0,
-        place: place,
-    }
-}
 
 // The part of a memory at a place.
 fn part<'a>(memory: &'a [u8], place: Place) -> &'a [u8]
@@ -117,40 +92,32 @@ impl BufferPool {
     pub fn frame_view(self, pool: &[u8], overflow: &[u8]) -> View
         ensures { λ r. ⌜ r ≡ spec.frameView (self .slots) self (memories (now (pool .entry)) (now (overflow .entry))) ⌝ }
     {
-        let number = guard(self, pool, overflow);
-        if number != 0 {
-            return hidden(number);
-        }
-        shown(steps::frame(self))
+        let starts = self.starts;
+        let lengths = self.lengths;
+        let n = self.numbers();
+        n.frame_view(&starts, &lengths, pool, overflow)
     }
 
     // Where the reservation lies: after the frame, in the same memory. Refused with 1 and 2.
     pub fn reservation_view(self, pool: &[u8], overflow: &[u8]) -> View
         ensures { λ r. ⌜ r ≡ spec.reservationView (self .slots) self (memories (now (pool .entry)) (now (overflow .entry))) ⌝ }
     {
-        let number = guard(self, pool, overflow);
-        if number != 0 {
-            return hidden(number);
-        }
-        shown(reservation(self))
+        let starts = self.starts;
+        let lengths = self.lengths;
+        let n = self.numbers();
+        n.reservation_view(&starts, &lengths, pool, overflow)
     }
 
     // Where the slice of a handle lies. Refused with 1, 2, and with 7 if the handle names no live slice.
     pub fn slice_view(self, pool: &[u8], overflow: &[u8], h: Handle) -> View
         ensures { λ r. ⌜ r ≡ spec.sliceView (self .slots) self (memories (now (pool .entry)) (now (overflow .entry))) h ⌝ }
     {
-        let number = guard(self, pool, overflow);
-        if number != 0 {
-            return hidden(number);
-        }
-        if !steps::names(self, h) {
-            return hidden(refusals::NOT_LIVE);
-        }
-        shown(Place {
-            memory: Memory::Pool,
-            start: h.start as u64,
-            length: h.length as u64,
-        })
+        let starts = self.starts;
+        let lengths = self.lengths;
+        let serials = self.serials;
+        let callers = self.callers;
+        let n = self.numbers();
+        n.slice_view(&starts, &lengths, &serials, &callers, pool, overflow, h)
     }
 
     // The frame, a part of the pool memory or of the overflow by mode. Refused with 1 and 2 (`frame_number`).

@@ -11,11 +11,11 @@ use Rattle.buffer_pool.specs.declared.slice.Handle as pool
 use Rattle.buffer_pool.specs.declared.buffer_pool.Place as range
 use Rattle.buffer_pool.specs.declared.buffer_pool.Memory.the-variants.{Pool}
 use Rattle.buffer_pool.specs.declared.buffer_pool.View.{View}
-use Rattle.buffer_pool.specs.declared.buffer_pool.Answer.{Answer}
+use Rattle.buffer_pool.specs.declared.lent.Reserving.{Reserving}
+use Rattle.buffer_pool.specs.declared.lent.Taking.{Taking}
 use Rattle.buffer_pool.specs.declared.buffer_pool.BufferPool.{BufferPool}
 use Rattle.buffer_pool.specs.Record.{mostSlots, callerCount}
 use Rattle.buffer_pool.specs.Moves.{Memories}
-use Rattle.buffer_pool.specs.Values.{values}
 use Rattle.buffer_pool.specs.Soundness.{sound}
 use Rattle.buffer_pool.specs.Steps.{refused, at, names, releaseStep}
 use Rattle.buffer_pool.specs.Calls as calls
@@ -25,23 +25,16 @@ use Rattle.buffer_pool.proofs.Soundness.{sound-use}
 use Rattle.buffer_pool.proofs.Named.{names-use}
 use Rattle.buffer_pool_c.specs.declared.results.Place.{Place}
 use Rattle.buffer_pool_c.specs.declared.results.Handle.{Handle}
-use Rattle.buffer_pool_c.specs.Results.{memoryNumber, placeOf, handleOf, reserveResult, placeResult, takeResult, viewResult, named, byteOr, inBytes}
+use Rattle.buffer_pool_c.specs.Results.{memoryNumber, placeOf, handleOf, reserveGives, takeGives, viewResult, named, byteOr, inBytes}
 
 pub place-as : (p : range.Place) (n : ℕ) → n ≡ memoryNumber (p .memory) → record { start = p .start; length = p .length; memory = n } ≡ placeOf p
 place-as p n e = rw e refl
 
--- an answer's values, as the code reads them
-module _ (a : Answer) (n : ℕ) (z : n ≡ values a .number) where
-  module _ (p : range.Place) (e : p ≡ values a .place) (q : Place) (g : q ≡ placeOf p) where
-    pub place-result-as : record { place = q; refusal = n } ≡ placeResult a
-    place-result-as = rw (g, e, z) refl
+pub reserve-result-as : (c : Reserving) (q : Place) → q ≡ placeOf (c .view .place) → record { place = q; changes = c .changes; refusal = c .view .number } ≡ reserveGives c
+reserve-result-as c q e = rw e refl
 
-    pub reserve-result-as : (k : ℕ) → k ≡ values a .changes → record { place = q; changes = k; refusal = n } ≡ reserveResult a
-    reserve-result-as k f = rw (g, e, f, z) refl
-
-  pub take-result-as : (h : pool.Handle) → h ≡ values a .handle → (g : Handle) → g ≡ handleOf h → (k : ℕ) → k ≡ values a .length
-      → record { handle = g; copied = k; refusal = n } ≡ takeResult a
-  take-result-as h e g i k f = rw (i, e, f, z) refl
+pub take-result-as : (c : Taking) (h : Handle) → h ≡ handleOf (c .handle) → record { handle = h; copied = c .copied; refusal = c .number } ≡ takeGives c
+take-result-as c h e = rw e refl
 
 pub view-result-as : (v : View) (q : Place) → q ≡ placeOf (v .place) → record { place = q; refusal = v .number } ≡ viewResult v
 view-result-as v q e = rw e refl

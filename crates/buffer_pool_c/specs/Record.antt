@@ -1,13 +1,16 @@
 -- The record as C holds it: the pool's record with its mode as a number.
 use mathlib.Core.Bool.{Bool, _&&_}
 use Prim.Native.Nat.{ℕ, zero, suc, _^_}
-use lib.Dec.{leb, ltb}
+use lib.Dec.{leb, ltb, eqb}
+use Rattle.laws.specs.Tests.{pick}
 use Rattle.buffer_pool.specs.declared.buffer_pool.BufferPool.{BufferPool}
 use Rattle.buffer_pool.specs.declared.buffer_pool.PoolFront.{PoolFront}
 use Rattle.buffer_pool.specs.declared.buffer_pool.PoolMode.{PoolMode}
 use Rattle.buffer_pool.specs.declared.buffer_pool.PoolMode.the-variants.{Back, Front, Alloc}
+use Rattle.buffer_pool.specs.declared.numbers.Numbers.{Numbers}
 use Rattle.buffer_pool.specs.Record.{mostSlots}
 use Rattle.buffer_pool_c.specs.declared.record.Record.{Record}
+use Rattle.buffer_pool_c.specs.declared.record.Changed.{Changed}
 
 -- is it the number of a mode?
 abbrev pub isMode : ℕ → Bool
@@ -107,3 +110,64 @@ recordOf before p = recordIn (modeNumber (p .mode)) (frontOf (p .mode) before) p
 -- the record of a pool, where C held r before
 abbrev pub recordAfter : Record → BufferPool → Record
 recordAfter r p = recordOf (frontHeld r) p
+
+-- ---- What the code passes on to the pool, and what it stores. No exported call's contract speaks of it
+
+-- the slot count of a record that is a pool's, and 0 of any other: the soundness test refuses it with 1 (proofs/ExportLaws.antt, `unsound`)
+abbrev pub slotsOf : Record → ℕ
+slotsOf r = pick (known r) (r .slots) 0
+
+abbrev pub liveOf : Record → ℕ
+liveOf r = pick (isLiveWord (r .live)) (r .live) 0
+
+-- the numbers of the pool's record, with this slot count, these live slots and this mode
+abbrev pub numbersIn : ℕ → ℕ → PoolMode → Record → Numbers
+numbersIn slots live mode r =
+    record {
+      capacity = r .capacity;
+      overflow = r .overflow;
+      slots = slots;
+      live = live;
+      «back_start» = r .«back_start»;
+      «back_len» = r .«back_len»;
+      used = r .used;
+      «raw_offset» = r .«raw_offset»;
+      «raw_len» = r .«raw_len»;
+      mode = mode;
+      kept = r .kept;
+      cursor = r .cursor;
+      reserved = r .reserved;
+    }
+
+abbrev pub numbersOf : Record → Numbers
+numbersOf r = numbersIn (slotsOf r) (liveOf r) (modeOf (r .mode) (frontHeld r)) r
+
+-- the live word and the number of the mode after a call, by the number of its refusal
+abbrev pub liveAfter : ℕ → ℕ → ℕ → ℕ
+liveAfter before live number = pick (eqb number 0) live before
+
+abbrev pub modeAfter : ℕ → PoolMode → ℕ → ℕ
+modeAfter before mode number = pick (eqb number 0) (modeNumber mode) before
+
+-- the numbers of a record that a reserve or a take may change, after a call on r that left the numbers n
+abbrev pub changedIn : ℕ → ℕ → PoolFront → Numbers → Changed
+changedIn live mode front n =
+    record {
+      live = live;
+      mode = mode;
+      «back_start» = n .«back_start»;
+      «back_len» = n .«back_len»;
+      used = n .used;
+      «raw_offset» = n .«raw_offset»;
+      «raw_len» = n .«raw_len»;
+      «front_back_start» = front .«back_start»;
+      «front_byte_capacity» = front .«byte_capacity»;
+      «front_len» = front .len;
+      kept = n .kept;
+      cursor = n .cursor;
+      reserved = n .reserved;
+    }
+
+abbrev pub numbersAfter : Record → Numbers → ℕ → Changed
+numbersAfter r n number =
+    changedIn (liveAfter (r .live) (n .live) number) (modeAfter (r .mode) (n .mode) number) (frontOf (n .mode) (frontHeld r)) n

@@ -11,6 +11,8 @@ use Rattle.buffer_pool.specs.declared.buffer_pool.Answer.{Answer}
 use Rattle.buffer_pool.specs.Values.{values}
 use Rattle.buffer_pool.specs.Calls.{hidden}
 use Rattle.buffer_pool.specs.declared.buffer_pool.View.{View}
+use Rattle.buffer_pool.specs.declared.lent.Reserving.{Reserving}
+use Rattle.buffer_pool.specs.declared.lent.Taking.{Taking}
 use Rattle.buffer_pool_c.specs.declared.results.Place.{Place}
 use Rattle.buffer_pool_c.specs.declared.results.Handle.{Handle}
 use Rattle.buffer_pool_c.specs.declared.results.ReserveResult.{ReserveResult}
@@ -58,7 +60,14 @@ unknownView = viewResult (hidden 1)
 abbrev pub named : Handle → pool.Handle
 named h = record { slot = h .slot; start = h .start; length = h .length; serial = h .serial; caller = h .caller }
 
--- ---- What the code passes on to the pool. No exported call's contract speaks of it
+-- ---- What the code passes on to the pool, and what it makes of what the pool gives. No exported call's contract speaks of it
+
+-- what a reserve and a take give, of the numbers that the pool gives (crate buffer_pool, specs/Lent.antt)
+abbrev pub reserveGives : Reserving → ReserveResult
+reserveGives c = record { place = placeOf (c .view .place); changes = c .changes; refusal = c .view .number }
+
+abbrev pub takeGives : Taking → TakeResult
+takeGives c = record { handle = handleOf (c .handle); copied = c .copied; refusal = c .number }
 
 -- the number in a byte, and `other` for one that has none
 abbrev pub byteOr : ℕ → ℕ → ℕ

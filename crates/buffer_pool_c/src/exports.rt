@@ -1,12 +1,16 @@
-// The exported functions: each lends the record to its call on a record by value (by_value.rt).
+// The exported functions: each calls its method on the record's numbers (crate buffer_pool, src/lent.rt) with the arrays lent where they
+// lie, and stores what the call changed.
 ghost use mathlib.Core.Path.{_≡_};
 ghost use mathlib.Core.List.{[]};
 ghost use Rattle.buffer_pool.specs.Moves.{memories};
 ghost use Rattle.buffer_pool_c.specs.Exports as spec;
-use crate::by_value;
 use crate::record::Record;
+use crate::record::live_after;
 use crate::record::no_front;
+use crate::record::numbers_after;
+use crate::record::numbers_of;
 use crate::record::record_of;
+use crate::results;
 use crate::results::Handle;
 use crate::results::PlaceResult;
 use crate::results::ReserveResult;
@@ -43,9 +47,28 @@ pub extern "C" fn buffer_pool_reserve(
 ) -> ReserveResult
     ensures { λ r. ⌜ spec.left r (now (held .exit)) (memories (now (pool .exit)) (now (overflow .exit))) [] ≡ spec.reserve (now (held .entry)) (memories (now (pool .entry)) (now (overflow .entry))) len ⌝ }
 {
-    let called = by_value::reserve(*held, pool, overflow, len);
-    *held = called.held;
-    called.result
+    let r = *held;
+    let c = numbers_of(r).reserve(&held.starts, &held.lengths, pool, overflow, len);
+    let v = c.view;
+    let n = numbers_after(r, c.numbers, v.number);
+    if c.clears {
+        held.starts = [0; BufferPool::MOST_SLOTS];
+        held.lengths = [0; BufferPool::MOST_SLOTS];
+    }
+    held.live = n.live;
+    held.mode = n.mode;
+    held.back_start = n.back_start;
+    held.back_len = n.back_len;
+    held.used = n.used;
+    held.raw_offset = n.raw_offset;
+    held.raw_len = n.raw_len;
+    held.front_back_start = n.front_back_start;
+    held.front_byte_capacity = n.front_byte_capacity;
+    held.front_len = n.front_len;
+    held.kept = n.kept;
+    held.cursor = n.cursor;
+    held.reserved = n.reserved;
+    results::reserve_result(c)
 }
 
 // The first `n` bytes of the reservation join the frame. Refuses with 1, 2 and 5.
@@ -58,9 +81,11 @@ pub extern "C" fn buffer_pool_commit(
 ) -> PlaceResult
     ensures { λ r. ⌜ spec.left r (now (held .exit)) (memories (now (pool .entry)) (now (overflow .entry))) [] ≡ spec.commit (now (held .entry)) (memories (now (pool .entry)) (now (overflow .entry))) n ⌝ }
 {
-    let called = by_value::commit(*held, pool, overflow, n);
-    *held = called.held;
-    called.result
+    let c = numbers_of(*held).commit(&held.starts, &held.lengths, pool, overflow, n);
+    held.raw_len = c.raw_len;
+    held.cursor = c.cursor;
+    held.reserved = c.reserved;
+    results::view_result(c.view)
 }
 
 // The frame keeps at most its first `n` bytes. Refuses with 1 and 2.
@@ -73,9 +98,11 @@ pub extern "C" fn buffer_pool_truncate(
 ) -> PlaceResult
     ensures { λ r. ⌜ spec.left r (now (held .exit)) (memories (now (pool .entry)) (now (overflow .entry))) [] ≡ spec.truncate (now (held .entry)) (memories (now (pool .entry)) (now (overflow .entry))) n ⌝ }
 {
-    let called = by_value::truncate(*held, pool, overflow, n);
-    *held = called.held;
-    called.result
+    let c = numbers_of(*held).truncate(&held.starts, &held.lengths, pool, overflow, n);
+    held.raw_len = c.raw_len;
+    held.cursor = c.cursor;
+    held.reserved = c.reserved;
+    results::view_result(c.view)
 }
 
 // The frame becomes a slice of the pool, with the next serial of this caller, or is copied to the destination. Refuses with 1, 2, 12, 6
@@ -90,9 +117,41 @@ pub extern "C" fn buffer_pool_take(
 ) -> TakeResult
     ensures { λ r. ⌜ spec.left r (now (held .exit)) (memories (now (pool .entry)) (now (overflow .exit))) (now (destination .exit)) ≡ spec.take (now (held .entry)) (memories (now (pool .entry)) (now (overflow .entry))) caller (now (destination .entry)) ⌝ }
 {
-    let called = by_value::take(*held, pool, overflow, caller, destination);
-    *held = called.held;
-    called.result
+    let r = *held;
+    let c = numbers_of(r).take(
+        &held.starts,
+        &held.lengths,
+        &held.serials,
+        &held.callers,
+        &held.given,
+        pool,
+        overflow,
+        caller,
+        destination,
+    );
+    let n = numbers_after(r, c.numbers, c.number);
+    let e = c.entry;
+    let k = e.slot;
+    let g = e.caller;
+    held.starts[k] = e.start;
+    held.lengths[k] = e.length;
+    held.serials[k] = e.serial;
+    held.callers[k] = e.owner;
+    held.given[g] = e.given;
+    held.live = n.live;
+    held.mode = n.mode;
+    held.back_start = n.back_start;
+    held.back_len = n.back_len;
+    held.used = n.used;
+    held.raw_offset = n.raw_offset;
+    held.raw_len = n.raw_len;
+    held.front_back_start = n.front_back_start;
+    held.front_byte_capacity = n.front_byte_capacity;
+    held.front_len = n.front_len;
+    held.kept = n.kept;
+    held.cursor = n.cursor;
+    held.reserved = n.reserved;
+    results::take_result(c)
 }
 
 // The slot of the handle is free again; gives the refusal. Refuses with 1, 2 and 7.
@@ -105,9 +164,18 @@ pub extern "C" fn buffer_pool_release(
 ) -> u8
     ensures { λ r. ⌜ spec.left r (now (held .exit)) (memories (now (pool .entry)) (now (overflow .entry))) [] ≡ spec.release (now (held .entry)) (memories (now (pool .entry)) (now (overflow .entry))) h ⌝ }
 {
-    let called = by_value::release(*held, pool, overflow, h);
-    *held = called.held;
-    called.result
+    let r = *held;
+    let c = numbers_of(r).release(
+        &held.starts,
+        &held.lengths,
+        &held.serials,
+        &held.callers,
+        pool,
+        overflow,
+        results::named(h),
+    );
+    held.live = live_after(r.live, c.live, c.number);
+    c.number
 }
 
 // Where the frame lies. Refuses with 1 and 2.
@@ -115,7 +183,8 @@ pub extern "C" fn buffer_pool_release(
 pub extern "C" fn buffer_pool_frame(held: &Record, pool: &[u8], overflow: &[u8]) -> PlaceResult
     ensures { λ r. ⌜ r ≡ spec.frame (now (held .entry)) (memories (now (pool .entry)) (now (overflow .entry))) ⌝ }
 {
-    by_value::frame(*held, pool, overflow)
+    let v = numbers_of(*held).frame_view(&held.starts, &held.lengths, pool, overflow);
+    results::view_result(v)
 }
 
 // Where the reservation lies. Refuses with 1 and 2.
@@ -127,7 +196,8 @@ pub extern "C" fn buffer_pool_reservation(
 ) -> PlaceResult
     ensures { λ r. ⌜ r ≡ spec.reservation (now (held .entry)) (memories (now (pool .entry)) (now (overflow .entry))) ⌝ }
 {
-    by_value::reservation(*held, pool, overflow)
+    let v = numbers_of(*held).reservation_view(&held.starts, &held.lengths, pool, overflow);
+    results::view_result(v)
 }
 
 // Where the slice of a handle lies. Refuses with 1, 2 and 7.
@@ -140,5 +210,14 @@ pub extern "C" fn buffer_pool_slice(
 ) -> PlaceResult
     ensures { λ r. ⌜ r ≡ spec.slice (now (held .entry)) (memories (now (pool .entry)) (now (overflow .entry))) h ⌝ }
 {
-    by_value::slice(*held, pool, overflow, h)
+    let v = numbers_of(*held).slice_view(
+        &held.starts,
+        &held.lengths,
+        &held.serials,
+        &held.callers,
+        pool,
+        overflow,
+        results::named(h),
+    );
+    results::view_result(v)
 }

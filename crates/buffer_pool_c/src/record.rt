@@ -1,11 +1,10 @@
 // The record as C holds it, and the pool's own record in it.
 ghost use mathlib.Core.Path.{_≡_};
-ghost use Prim.Native.Nat.{_<_, _^_};
-ghost use Rattle.buffer_pool.specs.Record.{mostSlots};
 ghost use Rattle.buffer_pool_c.specs.Record as spec;
 use buffer_pool::buffer_pool::BufferPool;
 use buffer_pool::buffer_pool::PoolFront;
 use buffer_pool::buffer_pool::PoolMode;
+use buffer_pool::numbers::Numbers;
 
 // `buffer_pool_record`: the fields of the pool's record, its mode as a number and the front's three numbers beside it. It has no
 // padding: `live` and `mode` fill one word.
@@ -36,7 +35,7 @@ pub struct Record {
 
 // A live word is below this, as the pool's own word has 16 bits. That it has no bit beyond the record's own slots is for the pool's
 // soundness test, which refuses with 1 as well.
-pub(crate) const LIVE_LIMIT: u32 = 1 << BufferPool::MOST_SLOTS;
+const LIVE_LIMIT: u32 = 1 << BufferPool::MOST_SLOTS;
 
 // The mode with this number; for a number that is none, the overflow.
 fn mode_of(number: u32, front: PoolFront) -> PoolMode
@@ -95,26 +94,45 @@ fn front_of(mode: PoolMode, before: PoolFront) -> PoolFront
     }
 }
 
-// The pool's record, where the live word fits the pool's 16 bits.
-pub(crate) fn pool_of(r: Record) -> BufferPool
-    requires { ⌜ r .live < 2 ^ mostSlots ⌝ }
-    ensures { λ p. ⌜ p ≡ spec.poolOf r ⌝ }
+// Can the record be a pool's: does its live word fit the pool's 16 bits, and is its mode the number of one?
+fn is_known(r: Record) -> bool
+    ensures { λ b. ⌜ b ≡ spec.known r ⌝ }
 {
-    let starts = r.starts;
-    let lengths = r.lengths;
-    let serials = r.serials;
-    let callers = r.callers;
-    let given = r.given;
-    BufferPool {
+    if r.live >= LIVE_LIMIT {
+        return false;
+    }
+    r.mode <= 2
+}
+
+// The slot count of a pool's record, and 0 of any other, which is no pool's count: every call refuses it with 1.
+fn slots_of(r: Record) -> usize
+    ensures { λ n. ⌜ n ≡ spec.slotsOf r ⌝ }
+{
+    if is_known(r) {
+        return r.slots;
+    }
+    0
+}
+
+// The live slots of a pool's record.
+fn live_of(r: Record) -> u16
+    ensures { λ n. ⌜ n ≡ spec.liveOf r ⌝ }
+{
+    if r.live >= LIVE_LIMIT {
+        return 0;
+    }
+    r.live as u16
+}
+
+// The numbers of the pool's record.
+pub(crate) fn numbers_of(r: Record) -> Numbers
+    ensures { λ n. ⌜ n ≡ spec.numbersOf r ⌝ }
+{
+    Numbers {
         capacity: r.capacity,
         overflow: r.overflow,
-        slots: r.slots,
-        live: r.live as u16,
-        starts: starts,
-        lengths: lengths,
-        serials: serials,
-        callers: callers,
-        given: given,
+        slots: slots_of(r),
+        live: live_of(r),
         back_start: r.back_start,
         back_len: r.back_len,
         used: r.used,
@@ -124,6 +142,66 @@ pub(crate) fn pool_of(r: Record) -> BufferPool
         kept: r.kept,
         cursor: r.cursor,
         reserved: r.reserved,
+    }
+}
+
+// The live word after a call with this number of its refusal: a refused call leaves it.
+pub(crate) fn live_after(before: u32, live: u16, number: u8) -> u32
+    ensures { λ n. ⌜ n ≡ spec.liveAfter before live number ⌝ }
+{
+    if number != 0 {
+        return before;
+    }
+    live as u32
+}
+
+// The number of the mode after a call, likewise.
+fn mode_after(before: u32, mode: PoolMode, number: u8) -> u32
+    ensures { λ n. ⌜ n ≡ spec.modeAfter before mode number ⌝ }
+{
+    if number != 0 {
+        return before;
+    }
+    mode_number(mode)
+}
+
+// The numbers of a record that a reserve or a take may change, as C holds them.
+pub struct Changed {
+    pub live: u32,
+    pub mode: u32,
+    pub back_start: usize,
+    pub back_len: usize,
+    pub used: usize,
+    pub raw_offset: u64,
+    pub raw_len: u64,
+    pub front_back_start: usize,
+    pub front_byte_capacity: u64,
+    pub front_len: usize,
+    pub kept: u64,
+    pub cursor: u64,
+    pub reserved: u64,
+}
+
+// Those numbers after a call on `r` that left the numbers `n`, with this number of its refusal.
+pub(crate) fn numbers_after(r: Record, n: Numbers, number: u8) -> Changed
+    ensures { λ c. ⌜ c ≡ spec.numbersAfter r n number ⌝ }
+{
+    let mode = n.mode;
+    let front = front_of(mode, front_held(r));
+    Changed {
+        live: live_after(r.live, n.live, number),
+        mode: mode_after(r.mode, mode, number),
+        back_start: n.back_start,
+        back_len: n.back_len,
+        used: n.used,
+        raw_offset: n.raw_offset,
+        raw_len: n.raw_len,
+        front_back_start: front.back_start,
+        front_byte_capacity: front.byte_capacity,
+        front_len: front.len,
+        kept: n.kept,
+        cursor: n.cursor,
+        reserved: n.reserved,
     }
 }
 
@@ -161,11 +239,4 @@ pub(crate) fn record_of(before: PoolFront, p: BufferPool) -> Record
         cursor: p.cursor,
         reserved: p.reserved,
     }
-}
-
-// The record that C holds of a pool, where it held `r` before.
-pub(crate) fn record_after(r: Record, p: BufferPool) -> Record
-    ensures { λ h. ⌜ h ≡ spec.recordAfter r p ⌝ }
-{
-    record_of(front_held(r), p)
 }

@@ -2,10 +2,10 @@
 // refusal's number, and 0 for every other number.
 ghost use mathlib.Core.Path.{_≡_};
 ghost use Rattle.buffer_pool_c.specs.Results as spec;
-use buffer_pool::buffer_pool::Answer;
 use buffer_pool::buffer_pool::Memory;
 use buffer_pool::buffer_pool::View;
-use buffer_pool::refusals;
+use buffer_pool::lent::Reserving;
+use buffer_pool::lent::Taking;
 use buffer_pool::slice;
 
 // `buffer_pool_place`: a range of one memory, 0 the pool memory and 1 the overflow.
@@ -85,38 +85,29 @@ fn given_handle(h: slice::Handle) -> Handle
 }
 
 // What a reserve gives.
-pub(crate) fn reserve_result(answer: Answer) -> ReserveResult
-    ensures { λ r. ⌜ r ≡ spec.reserveResult answer ⌝ }
+pub(crate) fn reserve_result(c: Reserving) -> ReserveResult
+    ensures { λ r. ⌜ r ≡ spec.reserveGives c ⌝ }
 {
+    let v = c.view;
     ReserveResult {
-        place: numbered(answer.place()),
-        changes: answer.changes() as u64,
-        refusal: answer.refusal() as u64,
-    }
-}
-
-// What a commit or a truncate gives.
-pub(crate) fn place_result(answer: Answer) -> PlaceResult
-    ensures { λ r. ⌜ r ≡ spec.placeResult answer ⌝ }
-{
-    PlaceResult {
-        place: numbered(answer.place()),
-        refusal: answer.refusal() as u64,
+        place: numbered(v.place),
+        changes: c.changes as u64,
+        refusal: v.number as u64,
     }
 }
 
 // What a take gives.
-pub(crate) fn take_result(answer: Answer) -> TakeResult
-    ensures { λ r. ⌜ r ≡ spec.takeResult answer ⌝ }
+pub(crate) fn take_result(c: Taking) -> TakeResult
+    ensures { λ r. ⌜ r ≡ spec.takeGives c ⌝ }
 {
     TakeResult {
-        handle: given_handle(answer.handle()),
-        copied: answer.copied(),
-        refusal: answer.refusal() as u64,
+        handle: given_handle(c.handle),
+        copied: c.copied,
+        refusal: c.number as u64,
     }
 }
 
-// What a view gives.
+// What a commit, a truncate or a view gives.
 pub(crate) fn view_result(v: View) -> PlaceResult
     ensures { λ r. ⌜ r ≡ spec.viewResult v ⌝ }
 {
@@ -124,13 +115,6 @@ pub(crate) fn view_result(v: View) -> PlaceResult
         place: numbered(v.place),
         refusal: v.number as u64,
     }
-}
-
-// What a view of a record gives that is no pool's.
-pub(crate) fn unknown_view() -> PlaceResult
-    ensures { λ r. ⌜ r ≡ spec.unknownView ⌝ }
-{
-    place_result(Answer::Refused(refusals::UNSOUND))
 }
 
 // A number in a byte, and `other` for one that has none.

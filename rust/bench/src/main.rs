@@ -6,6 +6,7 @@ mod allocations;
 mod inside;
 mod mixes;
 mod sides;
+mod stack;
 mod timing;
 
 use buffer_pool::raw;
@@ -30,6 +31,7 @@ fn print_pools<R: Side, P: Side>(rounds: usize) {
     print_mixes::<R, P>(&mixes, rounds);
     print_kinds::<R, P>(&mixes, rounds);
     print_views::<R, P>(&[0, 1, slots / 2, slots - 1, slots], rounds);
+    print_stack::<R, P>(&mixes);
 }
 
 /// Both sides' times, in turn: the least and the median of each.
@@ -101,6 +103,17 @@ fn print_views<R: Side, P: Side>(held: &[usize], rounds: usize) {
         let [rust, port] =
             in_turn(rounds, || timing::frame::<R>(held), || timing::frame::<P>(held));
         println!("| {held} | {:.1} ({:.1}) | {:.1} ({:.1}) |", rust.0, rust.1, port.0, port.1);
+    }
+}
+
+/// The greatest stack of a call in all mixes.
+fn print_stack<R: Side, P: Side>(mixes: &[Mix]) {
+    println!("\n| greatest stack of a call, bytes | {} | frame |", KINDS.join(" | "));
+    println!("|---|{}", "---|".repeat(KINDS.len() + 1));
+    for (name, most) in
+        [("the Rust", stack::greatest::<R>(mixes)), ("the port", stack::greatest::<P>(mixes))]
+    {
+        println!("| {name} | {} |", most.map(|bytes| bytes.to_string()).join(" | "));
     }
 }
 

@@ -1,42 +1,27 @@
 -- `placing::finish_in_overflow` meets its contract. Assumes nothing.
-use Rattle.buffer_pool.proofs.DecidingLaws.{overflow-past, overflow-short, overflow-keeps, overflow-grows}
+use Rattle.buffer_pool.proofs.DecidingLaws.{overflow-short, overflow-fits, overflow-end}
 use borrow.Author.Needs.{needs}
 use Rattle.buffer_pool.proofs.placing.finish_in_overflow.Statement.{statement}
 use Rattle.buffer_pool.proofs.placing.finish_in_overflow.Tie as tie
 
+in-bounds-requires : tie.Need-in-bounds-requires
+in-bounds-requires c κs = search needs
+
 returns : tie.Need-returns
-returns c = search overflow-past
+returns c = search overflow-short
 
-returns-2 : tie.Need-returns-2
-returns-2 c = search overflow-short
+add-max : tie.Need-add-max
+add-max c = search overflow-end
 
-add-end : tie.Need-add-end
-add-end c = search needs
+max-requires : tie.Need-max-requires
+max-requires c κs = search needs
 
 framed-requires : tie.Need-framed-requires
 framed-requires c κs = search needs
 
-returns-3 : tie.Need-returns-3
-returns-3 c = search overflow-keeps
-
-framed-requires-2 : tie.Need-framed-requires-2
-framed-requires-2 c κs = search needs
-
-push-requires : tie.Need-push-requires
-push-requires c κs = search needs
-
-returns-4 : tie.Need-returns-4
-returns-4 c = search (overflow-grows, needs)
+returns-2 : tie.Need-returns-2
+returns-2 c = search overflow-fits
 
 pub finish-in-overflow-spec : {M : Type 1} → statement M
 finish-in-overflow-spec =
-    tie.close
-    (tie.spec
-    returns
-    returns-2
-    add-end
-    framed-requires
-    returns-3
-    framed-requires-2
-    push-requires
-    returns-4)
+    tie.close (tie.spec in-bounds-requires returns add-max max-requires framed-requires returns-2)

@@ -10,11 +10,8 @@ max-requires c κs = search needs
 framed-requires : tie.Need-framed-requires
 framed-requires c κs = search needs
 
-push-requires : tie.Need-push-requires
-push-requires c κs = search needs
-
 returns : tie.Need-returns
-returns c = search (gone-out, needs)
+returns c = search gone-out
 
 pub go-out-spec : {M : Type 1} → statement M
-go-out-spec = tie.close (tie.spec max-requires framed-requires push-requires returns)
+go-out-spec = tie.close (tie.spec max-requires framed-requires returns)

@@ -1,5 +1,5 @@
 -- `placing::mode_step` meets its contract. Assumes nothing.
-use Rattle.buffer_pool.proofs.DecidingLaws.{back-cursor, front-cursor, front-slots, layer-back, layer-front, layer-alloc}
+use Rattle.buffer_pool.proofs.DecidingLaws.{back-cursor, front-cursor, front-slots, alloc-empty, layer-back, layer-front, layer-alloc}
 use borrow.Author.Needs.{needs}
 use Rattle.buffer_pool.proofs.placing.mode_step.Statement.{statement}
 use Rattle.buffer_pool.proofs.placing.mode_step.Tie as tie
@@ -20,16 +20,16 @@ enum-told-2 : tie.Need-enum-told-2
 enum-told-2 c = search needs
 
 reserve-from-system-memory-requires : tie.Need-reserve-from-system-memory-requires
-reserve-from-system-memory-requires c κs = search needs
+reserve-from-system-memory-requires c κs = search (alloc-empty, needs)
 
 returns : tie.Need-returns
-returns c = search (layer-back, needs)
+returns c = search layer-back
 
 returns-2 : tie.Need-returns-2
-returns-2 c = search (layer-front, needs)
+returns-2 c = search layer-front
 
 returns-3 : tie.Need-returns-3
-returns-3 c = search (layer-alloc, needs)
+returns-3 c = search layer-alloc
 
 pub mode-step-spec : {M : Type 1} → statement M
 mode-step-spec =

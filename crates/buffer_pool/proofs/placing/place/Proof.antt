@@ -1,38 +1,40 @@
 -- `placing::place` meets its contract. Assumes nothing.
-use Rattle.buffer_pool.proofs.ResetLaws.{reset-placeable, decides-reset, decides-without-reset}
+use Rattle.buffer_pool.proofs.ResetLaws.{places-cleared, places-kept}
+use Rattle.buffer_pool.proofs.RouteLaws.{stayed-reaches}
+use Rattle.laws.proofs.Tests.{no-true}
 use borrow.Author.Needs.{needs}
 use Rattle.buffer_pool.proofs.placing.place.Statement.{statement}
 use Rattle.buffer_pool.proofs.placing.place.Tie as tie
 
-resets-requires : tie.Need-resets-requires
-resets-requires c κs = search needs
+at-requires : tie.Need-at-requires
+at-requires c κs = search needs
 
-reset-requires : tie.Need-reset-requires
-reset-requires c κs = search needs
+entries-requires : tie.Need-entries-requires
+entries-requires c κs = search needs
+
+entries-requires-2 : tie.Need-entries-requires-2
+entries-requires-2 c κs = search needs
 
 reserve--requires : tie.Need-reserve--requires
-reserve--requires c κs = (search reset-placeable, search needs, search needs)
+reserve--requires c κs = (search needs, search needs, λ _ _. search (stayed-reaches, needs), λ e. absurd (no-true e))
 
 returns : tie.Need-returns
-returns c = search decides-reset
-
-none-requires : tie.Need-none-requires
-none-requires c κs = search needs
+returns c = search places-cleared
 
 reserve--requires-2 : tie.Need-reserve--requires-2
-reserve--requires-2 c κs = search needs
+reserve--requires-2 c κs = (search needs, search needs, λ _ _. search (stayed-reaches, needs), λ e. absurd (no-true e))
 
 returns-2 : tie.Need-returns-2
-returns-2 c = search decides-without-reset
+returns-2 c = search places-kept
 
 pub place-spec : {M : Type 1} → statement M
 place-spec =
     tie.close
     (tie.spec
-    resets-requires
-    reset-requires
+    at-requires
+    entries-requires
+    entries-requires-2
     reserve--requires
     returns
-    none-requires
     reserve--requires-2
     returns-2)

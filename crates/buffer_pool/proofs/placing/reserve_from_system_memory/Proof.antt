@@ -11,7 +11,7 @@ stay-requires : tie.Need-stay-requires
 stay-requires c κs = search needs
 
 returns : tie.Need-returns
-returns c = search (alloc-keeps, needs)
+returns c = search alloc-keeps
 
 try-clear-tail-unchecked-requires : tie.Need-try-clear-tail-unchecked-requires
 try-clear-tail-unchecked-requires c κs = search (gives-way-clearable, needs)
@@ -20,7 +20,7 @@ change-requires : tie.Need-change-requires
 change-requires c κs = search needs
 
 returns-2 : tie.Need-returns-2
-returns-2 c = search (alloc-clears-tail, needs)
+returns-2 c = search alloc-clears-tail
 
 try-clear-head-requires : tie.Need-try-clear-head-requires
 try-clear-head-requires c κs = search (gives-way-full, needs)
@@ -29,13 +29,13 @@ change-requires-2 : tie.Need-change-requires-2
 change-requires-2 c κs = search needs
 
 returns-3 : tie.Need-returns-3
-returns-3 c = search (alloc-clears-head, needs)
+returns-3 c = search alloc-clears-head
 
 stay-requires-2 : tie.Need-stay-requires-2
 stay-requires-2 c κs = search needs
 
 returns-4 : tie.Need-returns-4
-returns-4 c = search (alloc-stays, needs)
+returns-4 c = search alloc-stays
 
 pub reserve-from-system-memory-spec : {M : Type 1} → statement M
 reserve-from-system-memory-spec =

@@ -1,5 +1,5 @@
 -- `placing::reset` meets its contract. Assumes nothing.
-use Rattle.buffer_pool.proofs.ResetLaws.{reset-back, reset-front, reset-alloc, alloc-kept}
+use Rattle.buffer_pool.proofs.ResetLaws.{alloc-kept, reset-back, reset-front, reset-alloc}
 use borrow.Author.Needs.{needs}
 use Rattle.buffer_pool.proofs.placing.reset.Statement.{statement}
 use Rattle.buffer_pool.proofs.placing.reset.Tie as tie

@@ -7,14 +7,8 @@ use Rattle.buffer_pool.proofs.placing.reset_in_pool.Tie as tie
 placed-requires : tie.Need-placed-requires
 placed-requires c κs = search needs
 
-none-requires : tie.Need-none-requires
-none-requires c κs = search needs
-
-within-requires : tie.Need-within-requires
-within-requires c κs = search needs
-
 returns : tie.Need-returns
 returns c = search starts-in-pool
 
 pub reset-in-pool-spec : {M : Type 1} → statement M
-reset-in-pool-spec = tie.close (tie.spec placed-requires none-requires within-requires returns)
+reset-in-pool-spec = tie.close (tie.spec placed-requires returns)

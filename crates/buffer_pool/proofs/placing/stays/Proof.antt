@@ -1,23 +1,20 @@
 -- `placing::stays` meets its contract. Assumes nothing.
-use Rattle.buffer_pool.proofs.DecidingLaws.{stays-entered, stays-with-frame, stays-without-back, stays-by-tail}
+use Rattle.buffer_pool.proofs.DecidingLaws.{stays-with-frame, stays-without-back, stays-by-tail}
 use borrow.Author.Needs.{needs}
 use Rattle.buffer_pool.proofs.placing.stays.Statement.{statement}
 use Rattle.buffer_pool.proofs.placing.stays.Tie as tie
 
 returns : tie.Need-returns
-returns c = search stays-entered
+returns c = search stays-with-frame
 
 returns-2 : tie.Need-returns-2
-returns-2 c = search stays-with-frame
-
-returns-3 : tie.Need-returns-3
-returns-3 c = search stays-without-back
+returns-2 c = search stays-without-back
 
 tail-is-clearable-requires : tie.Need-tail-is-clearable-requires
 tail-is-clearable-requires c κs = search needs
 
-returns-4 : tie.Need-returns-4
-returns-4 c = search stays-by-tail
+returns-3 : tie.Need-returns-3
+returns-3 c = search stays-by-tail
 
 pub stays-spec : {M : Type 1} → statement M
-stays-spec = tie.close (tie.spec returns returns-2 returns-3 tail-is-clearable-requires returns-4)
+stays-spec = tie.close (tie.spec returns returns-2 tail-is-clearable-requires returns-3)

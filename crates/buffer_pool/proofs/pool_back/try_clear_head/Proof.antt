@@ -16,22 +16,14 @@ returns-2 c = search all-free
 mul-wide : tie.Need-mul-wide
 mul-wide c = search needs
 
-array-read-wide : tie.Need-array-read-wide
-array-read-wide c = search needs
+element-copy-out-wide : tie.Need-element-copy-out-wide
+element-copy-out-wide c = search needs
 
 wide-requires : tie.Need-wide-requires
 wide-requires c κs = search needs
 
 returns-3 : tie.Need-returns-3
-returns-3 c =
-    search (
-      head-short,
-      c .if3 .taken,
-      c .before .before .wide .ensures .0,
-      c .before .before .before .before .if2 .left,
-      c .before .before .before .before .before .if1 .left,
-      c .before .before .before .before .before .before .leading .ensures .0,
-    )
+returns-3 c = search head-short
 
 head-cleared-requires : tie.Need-head-cleared-requires
 head-cleared-requires c κs = search needs
@@ -47,7 +39,7 @@ try-clear-head-spec =
     returns
     returns-2
     mul-wide
-    array-read-wide
+    element-copy-out-wide
     wide-requires
     returns-3
     head-cleared-requires

@@ -7,14 +7,8 @@ use Rattle.buffer_pool.proofs.slice.last_front.Tie as tie
 returns : tie.Need-returns
 returns c = search (no-front, needs)
 
-sub-front : tie.Need-sub-front
-sub-front c = search needs
-
-cast-front : tie.Need-cast-front
-cast-front c = search needs
-
-shr-front : tie.Need-shr-front
-shr-front c = search needs
+front-bits-requires : tie.Need-front-bits-requires
+front-bits-requires c κs = search needs
 
 returns-2 : tie.Need-returns-2
 returns-2 c = search (front-free, needs)
@@ -31,12 +25,4 @@ returns-3 c = search (front-last, needs)
 pub last-front-spec : {M : Type 1} → statement M
 last-front-spec =
     tie.close
-    (tie.spec
-    returns
-    sub-front
-    cast-front
-    shr-front
-    returns-2
-    trailing-requires
-    sub-result
-    returns-3)
+    (tie.spec returns front-bits-requires returns-2 trailing-requires sub-result returns-3)

@@ -1,11 +1,8 @@
 -- `sound::mode_numbers` meets its contract. Assumes nothing.
-use Rattle.buffer_pool.proofs.SoundTestLaws.{numbers-back, numbers-front, numbers-alloc, bounds-back, bounds-front, bounds-alloc}
+use Rattle.buffer_pool.proofs.SoundTestLaws.{numbers-back, numbers-front, numbers-alloc}
 use borrow.Author.Needs.{needs}
 use Rattle.buffer_pool.proofs.sound.mode_numbers.Statement.{statement}
 use Rattle.buffer_pool.proofs.sound.mode_numbers.Tie as tie
-
-add-most : tie.Need-add-most
-add-most c = search needs
 
 enum-told : tie.Need-enum-told
 enum-told c = search needs
@@ -26,19 +23,18 @@ alloc-numbers-requires : tie.Need-alloc-numbers-requires
 alloc-numbers-requires c κs = search needs
 
 returns : tie.Need-returns
-returns c = search (numbers-back, bounds-back)
+returns c = search numbers-back
 
 returns-2 : tie.Need-returns-2
-returns-2 c = search (numbers-front, bounds-front)
+returns-2 c = search numbers-front
 
 returns-3 : tie.Need-returns-3
-returns-3 c = search (numbers-alloc, bounds-alloc)
+returns-3 c = search numbers-alloc
 
 pub mode-numbers-spec : {M : Type 1} → statement M
 mode-numbers-spec =
     tie.close
     (tie.spec
-    add-most
     enum-told
     back-numbers-requires
     enum-known-mode

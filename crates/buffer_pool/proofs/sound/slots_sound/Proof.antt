@@ -1,58 +1,46 @@
--- `sound::slots_sound` meets its contract. The slots from index i on are left to pass, after a live slot that ends at end. Assumes nothing.
+-- `sound::slots_sound` meets its contract. Assumes nothing.
+use Rattle.buffer_pool.proofs.SoundTestLaws.{limits-fail, slots-past, span-first, slots-decide}
 use borrow.Author.Needs.{needs}
-use mathlib.Core.Path.{_≡_}
-use Prim.Native.Nat.{_-_, _≤_}
-use Rattle.buffer_pool.specs.SlotPass.{passes}
-use Rattle.buffer_pool.proofs.SlotPassLaws.{passes-start, pass-fails, passes-more, passes-all}
 use Rattle.buffer_pool.proofs.sound.slots_sound.Statement.{statement}
 use Rattle.buffer_pool.proofs.sound.slots_sound.Tie as tie
 
-abbrev Inv-loop : tie.InvT-loop
-Inv-loop starts lengths slots live b last i₀ end₀ i end =
-    (i ≤ last) × (last ≤ slots) × (passes slots starts lengths live b slots 0 0 ≡ passes slots starts lengths live b (slots - i) i end)
+limited-requires : tie.Need-limited-requires
+limited-requires c κs = search needs
 
-abbrev μ-loop : tie.MeasureT-loop
-μ-loop starts lengths slots live b last i₀ end₀ i end = last - i
+returns : tie.Need-returns
+returns c = search limits-fail
 
-trailing-requires : tie.Need-trailing-requires Inv-loop μ-loop
+trailing-requires : tie.Need-trailing-requires
 trailing-requires c κs = search needs
 
-sub-last : tie.Need-sub-last Inv-loop μ-loop
+sub-last : tie.Need-sub-last
 sub-last c = search needs
 
-loop-holds : tie.Need-loop-holds Inv-loop μ-loop
-loop-holds c = search (passes-start, needs)
+add-if2 : tie.Need-add-if2
+add-if2 c = search needs
 
-slot-pass-requires : tie.Need-slot-pass-requires Inv-loop μ-loop
-slot-pass-requires c κs = search needs
+returns-2 : tie.Need-returns-2
+returns-2 c = search (slots-past, needs)
 
-returns : tie.Need-returns Inv-loop μ-loop
-returns c = search pass-fails
+span-of-requires : tie.Need-span-of-requires
+span-of-requires c κs = search needs
 
-add-i : tie.Need-add-i Inv-loop μ-loop
-add-i c = search needs
+in-order-requires : tie.Need-in-order-requires
+in-order-requires c κs = search (span-first, needs)
 
-loop-less : tie.Need-loop-less Inv-loop μ-loop
-loop-less c = search needs
-
-loop-again : tie.Need-loop-again Inv-loop μ-loop
-loop-again c = search (passes-more, needs)
-
-returns-2 : tie.Need-returns-2 Inv-loop μ-loop
-returns-2 c = search (passes-all, needs)
+returns-3 : tie.Need-returns-3
+returns-3 c = search (slots-decide, needs)
 
 pub slots-sound-spec : {M : Type 1} → statement M
 slots-sound-spec =
     tie.close
     (tie.spec
-    Inv-loop
-    μ-loop
+    limited-requires
+    returns
     trailing-requires
     sub-last
-    loop-holds
-    slot-pass-requires
-    returns
-    add-i
-    loop-less
-    loop-again
-    returns-2)
+    add-if2
+    returns-2
+    span-of-requires
+    in-order-requires
+    returns-3)

@@ -25,8 +25,8 @@ sub-k c = search needs
 mul-if4 : tie.Need-mul-if4
 mul-if4 c = search needs
 
-array-read-if4 : tie.Need-array-read-if4
-array-read-if4 c = search needs
+element-copy-out-if4 : tie.Need-element-copy-out-if4
+element-copy-out-if4 c = search needs
 
 returns-4 : tie.Need-returns-4
 returns-4 c = search start-differs
@@ -34,8 +34,8 @@ returns-4 c = search start-differs
 mul-if5 : tie.Need-mul-if5
 mul-if5 c = search needs
 
-array-read-if5 : tie.Need-array-read-if5
-array-read-if5 c = search needs
+element-copy-out-if5 : tie.Need-element-copy-out-if5
+element-copy-out-if5 c = search needs
 
 returns-5 : tie.Need-returns-5
 returns-5 c = search length-differs
@@ -43,14 +43,14 @@ returns-5 c = search length-differs
 mul-if6 : tie.Need-mul-if6
 mul-if6 c = search needs
 
-array-read-if6 : tie.Need-array-read-if6
-array-read-if6 c = search needs
+element-copy-out-if6 : tie.Need-element-copy-out-if6
+element-copy-out-if6 c = search needs
 
 returns-6 : tie.Need-returns-6
 returns-6 c = search serial-differs
 
-array-read-if7 : tie.Need-array-read-if7
-array-read-if7 c = search needs
+element-copy-out-if7 : tie.Need-element-copy-out-if7
+element-copy-out-if7 c = search needs
 
 returns-7 : tie.Need-returns-7
 returns-7 c = search caller-differs
@@ -72,15 +72,15 @@ names-spec =
     returns-3
     sub-k
     mul-if4
-    array-read-if4
+    element-copy-out-if4
     returns-4
     mul-if5
-    array-read-if5
+    element-copy-out-if5
     returns-5
     mul-if6
-    array-read-if6
+    element-copy-out-if6
     returns-6
-    array-read-if7
+    element-copy-out-if7
     returns-7
     cast-result
     returns-8)

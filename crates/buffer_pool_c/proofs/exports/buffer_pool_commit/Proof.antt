@@ -1,17 +1,12 @@
--- `exports::buffer_pool_commit` meets its contract, by the walk of `ThinKept`.
-use mathlib.Core.List.{[], _∷_}
-use mir.Syntax.{w64}
-use mir.Val.{vint}
-use denote.Slice.{slice-vals}
+-- `exports::buffer_pool_commit` meets its contract, by the walk of `Resized`.
 use Rattle.buffer_pool_c.specs.Exports as spec
-use Rattle.buffer_pool_c.proofs.Thin.{number, held}
-use Rattle.buffer_pool_c.proofs.ThinContract.{stands}
-use Rattle.buffer_pool_c.proofs.Answers.{place, placed}
-use Rattle.buffer_pool_c.proofs.ThinKept.{meets}
-use Rattle.buffer_pool_c.proofs.by_value.commit as g
-use Rattle.buffer_pool_c.proofs.by_value.commit.Symbol as g-def
-use Rattle.buffer_pool_c.proofs.by_value.commit.Symbol.{name as #g}
-use Rattle.buffer_pool_c.proofs.by_value.commit.Met as g-thm
+use Rattle.buffer_pool_c.proofs.Contract.{over, calls, stands}
+use Rattle.buffer_pool_c.proofs.Callees.{counting, viewing}
+use Rattle.buffer_pool_c.proofs.Resized.{meets}
+use Rattle.buffer_pool_c.proofs.ExportLaws.{Commits, commit-as}
+use Rattle.buffer_pool.proofs.numbers.Numbers.commit as g
+use Rattle.buffer_pool.proofs.numbers.Numbers.commit.Symbol as g-def
+use Rattle.buffer_pool.proofs.numbers.Numbers.commit.Met as g-thm
 use Rattle.buffer_pool_c.proofs.exports.buffer_pool_commit.Key.{name as #f}
 use Rattle.buffer_pool_c.proofs.exports.buffer_pool_commit as f
 use Rattle.buffer_pool_c.proofs.exports.buffer_pool_commit.Statement as stated
@@ -19,7 +14,6 @@ use Rattle.buffer_pool_c.proofs.exports.buffer_pool_commit.Code as code
 
 pub buffer-pool-commit-spec : {M : Type 1} → stated.statement M
 unfolding code.routine
-buffer-pool-commit-spec 𝓤 H 𝓜 𝓖 𝓡 =
-    stands 𝓤 H 𝓜 𝓖 𝓡 code.env #f code.function f.signature (f.spec 𝓤 H) (code.unfolded 𝓤 H 𝓜 𝓡) #g g-def.routine g.signature (g.spec 𝓤 H) code.calls-buffer-pool-c·by-value·commit (g-thm.met 𝓤 H 𝓜 𝓖 𝓡)
-    (λ W 𝓣 known. meets (number w64) place placed #g spec.commit 𝓤 H (𝓖 .A) W 𝓣
-    (λ κs qs h a. known ((κs .1, qs .1, tt, (h, a), (held .val h ∷ [], (slice-vals (a .0), (slice-vals (a .1 .0), (vint w64 (a .1 .1 .0) ∷ [], tt))))), tt)))
+buffer-pool-commit-spec 𝓤 H 𝓜 𝓖 𝓡 = stands 𝓤 H 𝓜 𝓖 𝓡 code.env #f code.function f.signature (f.spec 𝓤 H) (code.unfolded 𝓤 H 𝓜 𝓡) (λ W.
+    meets g-def.name Commits spec.commit 𝓤 H (𝓖 .A) W (over 𝓤 H 𝓜 𝓖 𝓡 code.env) (counting 𝓤 H 𝓜 𝓖 𝓡 code.env code.calls-buffer-pool-c·record·numbers-of) (viewing 𝓤 H 𝓜 𝓖 𝓡 code.env code.calls-buffer-pool-c·results·view-result)
+    (calls 𝓤 H 𝓜 𝓖 𝓡 code.env g-def.name g-def.routine g.signature (g.spec 𝓤 H) code.calls-buffer-pool·numbers·Numbers·commit (g-thm.met 𝓤 H 𝓜 𝓖 𝓡)) commit-as)

@@ -1,15 +1,12 @@
--- `exports::buffer_pool_reservation` meets its contract, by the walk of `ThinSeen`.
-use mathlib.Core.List.{[], _∷_}
-use denote.Slice.{slice-vals}
+-- `exports::buffer_pool_reservation` meets its contract, by the walk of `Viewed`.
 use Rattle.buffer_pool_c.specs.Exports as spec
-use Rattle.buffer_pool_c.proofs.Thin.{held}
-use Rattle.buffer_pool_c.proofs.ThinContract.{stands}
-use Rattle.buffer_pool_c.proofs.Answers.{place}
-use Rattle.buffer_pool_c.proofs.ThinSeen.{meets}
-use Rattle.buffer_pool_c.proofs.by_value.reservation as g
-use Rattle.buffer_pool_c.proofs.by_value.reservation.Symbol as g-def
-use Rattle.buffer_pool_c.proofs.by_value.reservation.Symbol.{name as #g}
-use Rattle.buffer_pool_c.proofs.by_value.reservation.Met as g-thm
+use Rattle.buffer_pool_c.proofs.Contract.{over, calls, stands}
+use Rattle.buffer_pool_c.proofs.Callees.{counting, viewing}
+use Rattle.buffer_pool_c.proofs.Viewed.{meets}
+use Rattle.buffer_pool_c.proofs.ExportLaws.{Reservations, reservation-as}
+use Rattle.buffer_pool.proofs.numbers.Numbers.reservation_view as g
+use Rattle.buffer_pool.proofs.numbers.Numbers.reservation_view.Symbol as g-def
+use Rattle.buffer_pool.proofs.numbers.Numbers.reservation_view.Met as g-thm
 use Rattle.buffer_pool_c.proofs.exports.buffer_pool_reservation.Key.{name as #f}
 use Rattle.buffer_pool_c.proofs.exports.buffer_pool_reservation as f
 use Rattle.buffer_pool_c.proofs.exports.buffer_pool_reservation.Statement as stated
@@ -17,7 +14,6 @@ use Rattle.buffer_pool_c.proofs.exports.buffer_pool_reservation.Code as
 
 pub buffer-pool-reservation-spec : {M : Type 1} → stated.statement M
 unfolding code.routine
-buffer-pool-reservation-spec 𝓤 H 𝓜 𝓖 𝓡 =
-    stands 𝓤 H 𝓜 𝓖 𝓡 code.env #f code.function f.signature (f.spec 𝓤 H) (code.unfolded 𝓤 H 𝓜 𝓡) #g g-def.routine g.signature (g.spec 𝓤 H) code.calls-buffer-pool-c·by-value·reservation (g-thm.met 𝓤 H 𝓜 𝓖 𝓡)
-    (λ W 𝓣 known. meets place #g spec.reservation 𝓤 H (𝓖 .A) W 𝓣
-    (λ κs qs h a. known ((κs .1, qs .1, tt, (h, a), (held .val h ∷ [], (slice-vals (a .0), (slice-vals (a .1 .0), tt)))), tt)))
+buffer-pool-reservation-spec 𝓤 H 𝓜 𝓖 𝓡 = stands 𝓤 H 𝓜 𝓖 𝓡 code.env #f code.function f.signature (f.spec 𝓤 H) (code.unfolded 𝓤 H 𝓜 𝓡) (λ W.
+    meets g-def.name Reservations spec.reservation 𝓤 H (𝓖 .A) W (over 𝓤 H 𝓜 𝓖 𝓡 code.env) (counting 𝓤 H 𝓜 𝓖 𝓡 code.env code.calls-buffer-pool-c·record·numbers-of) (viewing 𝓤 H 𝓜 𝓖 𝓡 code.env code.calls-buffer-pool-c·results·view-result)
+    (calls 𝓤 H 𝓜 𝓖 𝓡 code.env g-def.name g-def.routine g.signature (g.spec 𝓤 H) code.calls-buffer-pool·numbers·Numbers·reservation-view (g-thm.met 𝓤 H 𝓜 𝓖 𝓡)) reservation-as)

@@ -1,17 +1,12 @@
--- `exports::buffer_pool_truncate` meets its contract, by the walk of `ThinKept`.
-use mathlib.Core.List.{[], _∷_}
-use mir.Syntax.{w64}
-use mir.Val.{vint}
-use denote.Slice.{slice-vals}
+-- `exports::buffer_pool_truncate` meets its contract, by the walk of `Resized`.
 use Rattle.buffer_pool_c.specs.Exports as spec
-use Rattle.buffer_pool_c.proofs.Thin.{number, held}
-use Rattle.buffer_pool_c.proofs.ThinContract.{stands}
-use Rattle.buffer_pool_c.proofs.Answers.{place, placed}
-use Rattle.buffer_pool_c.proofs.ThinKept.{meets}
-use Rattle.buffer_pool_c.proofs.by_value.truncate as g
-use Rattle.buffer_pool_c.proofs.by_value.truncate.Symbol as g-def
-use Rattle.buffer_pool_c.proofs.by_value.truncate.Symbol.{name as #g}
-use Rattle.buffer_pool_c.proofs.by_value.truncate.Met as g-thm
+use Rattle.buffer_pool_c.proofs.Contract.{over, calls, stands}
+use Rattle.buffer_pool_c.proofs.Callees.{counting, viewing}
+use Rattle.buffer_pool_c.proofs.Resized.{meets}
+use Rattle.buffer_pool_c.proofs.ExportLaws.{Truncates, truncate-as}
+use Rattle.buffer_pool.proofs.numbers.Numbers.truncate as g
+use Rattle.buffer_pool.proofs.numbers.Numbers.truncate.Symbol as g-def
+use Rattle.buffer_pool.proofs.numbers.Numbers.truncate.Met as g-thm
 use Rattle.buffer_pool_c.proofs.exports.buffer_pool_truncate.Key.{name as #f}
 use Rattle.buffer_pool_c.proofs.exports.buffer_pool_truncate as f
 use Rattle.buffer_pool_c.proofs.exports.buffer_pool_truncate.Statement as stated
@@ -19,7 +14,6 @@ use Rattle.buffer_pool_c.proofs.exports.buffer_pool_truncate.Code as co
 
 pub buffer-pool-truncate-spec : {M : Type 1} → stated.statement M
 unfolding code.routine
-buffer-pool-truncate-spec 𝓤 H 𝓜 𝓖 𝓡 =
-    stands 𝓤 H 𝓜 𝓖 𝓡 code.env #f code.function f.signature (f.spec 𝓤 H) (code.unfolded 𝓤 H 𝓜 𝓡) #g g-def.routine g.signature (g.spec 𝓤 H) code.calls-buffer-pool-c·by-value·truncate (g-thm.met 𝓤 H 𝓜 𝓖 𝓡)
-    (λ W 𝓣 known. meets (number w64) place placed #g spec.truncate 𝓤 H (𝓖 .A) W 𝓣
-    (λ κs qs h a. known ((κs .1, qs .1, tt, (h, a), (held .val h ∷ [], (slice-vals (a .0), (slice-vals (a .1 .0), (vint w64 (a .1 .1 .0) ∷ [], tt))))), tt)))
+buffer-pool-truncate-spec 𝓤 H 𝓜 𝓖 𝓡 = stands 𝓤 H 𝓜 𝓖 𝓡 code.env #f code.function f.signature (f.spec 𝓤 H) (code.unfolded 𝓤 H 𝓜 𝓡) (λ W.
+    meets g-def.name Truncates spec.truncate 𝓤 H (𝓖 .A) W (over 𝓤 H 𝓜 𝓖 𝓡 code.env) (counting 𝓤 H 𝓜 𝓖 𝓡 code.env code.calls-buffer-pool-c·record·numbers-of) (viewing 𝓤 H 𝓜 𝓖 𝓡 code.env code.calls-buffer-pool-c·results·view-result)
+    (calls 𝓤 H 𝓜 𝓖 𝓡 code.env g-def.name g-def.routine g.signature (g.spec 𝓤 H) code.calls-buffer-pool·numbers·Numbers·truncate (g-thm.met 𝓤 H 𝓜 𝓖 𝓡)) truncate-as)

@@ -1,66 +1,78 @@
 -- `buffer_pool::BufferPool::take` meets its contract. Assumes nothing.
 use denote.Ref.{now}
-use Rattle.buffer_pool.proofs.CallLaws.{own-orderly, own-capacity, take-turned, take-nothing, copied-kept, copied-to, kept-in, take-copies}
+use Rattle.buffer_pool.proofs.TakeLaws.{take-called}
 use borrow.Author.Needs.{needs}
 use Rattle.buffer_pool.proofs.buffer_pool.BufferPool.take.Statement.{statement}
 use Rattle.buffer_pool.proofs.buffer_pool.BufferPool.take.Tie as tie
 
-take-cause-requires : tie.Need-take-cause-requires
-take-cause-requires c κs = search needs
+numbers-requires : tie.Need-numbers-requires
+numbers-requires c κs = search needs
 
-refused-requires : tie.Need-refused-requires
-refused-requires c κs = search needs
+take-requires : tie.Need-take-requires
+take-requires c κs = search needs
+
+mul-starts : tie.Need-mul-starts
+mul-starts c = search needs
+
+array-write-starts : tie.Need-array-write-starts
+array-write-starts c = search needs
+
+mul-lengths : tie.Need-mul-lengths
+mul-lengths c = search needs
+
+array-write-lengths : tie.Need-array-write-lengths
+array-write-lengths c = search needs
+
+mul-serials : tie.Need-mul-serials
+mul-serials c = search needs
+
+array-write-serials : tie.Need-array-write-serials
+array-write-serials c = search needs
+
+array-write-callers : tie.Need-array-write-callers
+array-write-callers c = search needs
+
+mul-given : tie.Need-mul-given
+mul-given c = search needs
+
+array-write-given : tie.Need-array-write-given
+array-write-given c = search needs
+
+filled-requires : tie.Need-filled-requires
+filled-requires c κs = search needs
+
+taken-answer-requires : tie.Need-taken-answer-requires
+taken-answer-requires c κs = search needs
 
 same-length : tie.Need-same-length
 same-length c = search needs
 
-returns : tie.Need-returns
-returns c = search take-turned
-
-take-step-requires : tie.Need-take-step-requires
-take-step-requires c κs = search (own-orderly, own-capacity)
-
-copied-requires : tie.Need-copied-requires
-copied-requires c κs = search needs
-
 same-length-2 : tie.Need-same-length-2
 same-length-2 c = search needs
 
-returns-2 : tie.Need-returns-2
-returns-2 c = search take-nothing
-
-copy-out-requires : tie.Need-copy-out-requires
-copy-out-requires c κs = (search copied-to, search copied-kept, search kept-in)
-
-same-length-3 : tie.Need-same-length-3
-same-length-3 c = search needs
-
-same-length-4 : tie.Need-same-length-4
-same-length-4 c = search needs
-
-returns-3 : tie.Need-returns-3
-returns-3 c =
-    let a = c .before .before .before .before .before .before .before .before .before .before .before .before .before .before .before .before .args in
-    let g = c .before .before .before .before .before .before .before .before .before .before .before .take-cause in
-    let t = c .before .before .before .before .before .before .before .before .before .take-step in
-    let l = c .before .before .before .before .before .before .before .before .copied in
-    let o = c .before .before .before .before .copy-out in
-    take-copies (a .self) (now (a .pool)) (now (a .overflow)) (now (a .destination)) (a .caller) (g .result) (g .ensures) (c .before .before .before .before .before .before .before .before .before .before .if1 .left) (t .result) (t .ensures) (l .result) (l .ensures)
-    (c .before .before .before .before .before .before .before .if2 .left) (o .last .1 .0) (o .last .0) (o .ensures .0) (o .ensures .1)
+returns : tie.Need-returns
+returns c =
+    let a = c .before .before .before .before .before .before .before .before .before .before .before .before .before .before .before .before .before .before .before .before .before .before .before .before .before .args in
+    let t = c .before .before .before .before .before .before .before .before in
+    take-called (a .self) _ (c .before .before .before .before .before .before .before .before .before .before .before .before .before .before .before .before .numbers .ensures .0) (now (a .pool)) (now (a .overflow)) _ (now (a .destination)) _ (a .caller) _ (t .take .ensures) _ (c .before .filled .ensures) _ (c .taken-answer .ensures)
 
 pub take-spec : {M : Type 1} → statement M
 take-spec =
     tie.close
     (tie.spec
-    take-cause-requires
-    refused-requires
+    numbers-requires
+    take-requires
+    mul-starts
+    array-write-starts
+    mul-lengths
+    array-write-lengths
+    mul-serials
+    array-write-serials
+    array-write-callers
+    mul-given
+    array-write-given
+    filled-requires
+    taken-answer-requires
     same-length
-    returns
-    take-step-requires
-    copied-requires
     same-length-2
-    returns-2
-    copy-out-requires
-    same-length-3
-    same-length-4
-    returns-3)
+    returns)
