@@ -37,11 +37,12 @@ use Rattle.buffer_pool.proofs.Unmoved.{unmoved, settled-place, over-pla
 use Rattle.buffer_pool.proofs.ResetLaws.{start-placeable, place-long, place-is}
 use Rattle.buffer_pool.proofs.CallLaws.{turned-away, let-through, through-sound, through-orderly, through-worded, through-pool, through-overflow, frame-end, orderly-placeable, orderly-cursor}
 use Rattle.buffer_pool.specs.declared.numbers.Numbers.{Numbers}
+use Rattle.buffer_pool.specs.declared.placing.FastPath.{FastPath}
 use Rattle.buffer_pool.specs.declared.placing.Start.{Start}
 use Rattle.buffer_pool.specs.declared.placing.Decided.{Decided}
 use Rattle.buffer_pool.specs.Moves.{Memories, memories, In, Down, act, perform, within, inside, allInside}
 use Rattle.buffer_pool.specs.Placing.{Decision, grows, backFits, frontFits, stays, clearable, isAlloc, resets, placeOf, place, tooLong}
-use Rattle.buffer_pool.specs.Deciding.{Worded, Placeable, Decides, routeMoves, startOn, startOf, entries, startMoves, allMoves, keepsIn, fitsIn, settled, startsOver, growingHere, growing, keptTo, offered}
+use Rattle.buffer_pool.specs.Deciding.{Worded, Placeable, Decides, routeMoves, startOn, startOf, entries, startMoves, allMoves, keepsIn, fitsIn, settled, startsOver, fastPath, growingHere, growing, keptTo, offered}
 use Rattle.buffer_pool.proofs.MovesMade.{perform-append, perform-within}
 use Rattle.buffer_pool.proofs.RouteLaws.{inside-append, within-pool}
 
@@ -248,24 +249,24 @@ module _ (n : Numbers) (S L : List ℕ) (m : Memories) (k : ℕ) (e : k ≡ caus
     unfolding startOf
     passed-brought s f t = passed-cursor (brought-alloc _ _ _ (n .mode) (ap (λ (x : Start). x .brought) (sym f) ∙ t))
 
-    module _ (len : ℕ) (b : Bool) (i : b ≡ settled (n .slots) (bare n) len) (t : b ≡ true) (q : Numbers) (f : q ≡ numbersOf (offered (bare n) len)) where
+    module _ (len : ℕ) (u : FastPath) (i : u ≡ fastPath (n .slots) (bare n) len) (t : u .settled ≡ true) (q : Numbers) (f : q ≡ numbersOf (offered (bare n) len)) where
       pub settled-sum : frame (bare q) .start + frame (bare q) .length ≤ 18446744073709551615
       settled-sum =
-          let y = sym (i ∙ settled-filled n S L zeros len) ∙ t in
+          let y = sym (ap (λ (x : FastPath). x .settled) i ∙ settled-filled n S L zeros len) ∙ t in
           rw (f, frame-filled (numbersOf (offered (bare n) len)) S L zeros (n .mode))
           (decided-sum (plain n S L) m len k e z (unmoved (plain n S L) len) (settled-place (plain n S L) len y) (settled-fits (plain n S L) m len k e z y))
 
-    module _ (len : ℕ) (b : Bool) (i : b ≡ startsOver (bare n) len) (t : b ≡ true) (a : Numbers) (g : a ≡ numbersOf (placed (bare n) Back 0 0 0 0))
+    module _ (len : ℕ) (u : FastPath) (i : u ≡ fastPath (n .slots) (bare n) len) (t : u .«starts_over» ≡ true) (a : Numbers) (g : a ≡ numbersOf (placed (bare n) Back 0 0 0 0))
         (q : Numbers) (f : q ≡ numbersOf (offered (bare a) len)) where
       pub over-sum : frame (bare q) .start + frame (bare q) .length ≤ 18446744073709551615
       over-sum =
-          let y = sym (i ∙ over-filled n S L zeros len) ∙ t in
+          let y = sym (ap (λ (x : FastPath). x .«starts_over») i ∙ over-filled n S L zeros len) ∙ t in
           rw (f, g)
           (decided-sum (plain n S L) m len k e z (unmoved (placed (plain n S L) Back 0 0 0 0) len) (over-is (plain n S L) m len k e z y) (over-fits (plain n S L) m len k e z))
 
-    module _ (len : ℕ) (b : Bool) (i : b ≡ growing (n .slots) (bare n) len) (t : b ≡ true) where
+    module _ (len : ℕ) (u : FastPath) (i : u ≡ fastPath (n .slots) (bare n) len) (t : u .growing ≡ true) where
       grows-is : growing (n .slots) (plain n S L) len ≡ true
-      grows-is = sym (i ∙ growing-filled n S L zeros len) ∙ t
+      grows-is = sym (ap (λ (x : FastPath). x .growing) i ∙ growing-filled n S L zeros len) ∙ t
 
       pub grown-kept : n .kept ≤ n .cursor + len
       grown-kept = omega (arith, growing-place (plain n S L) len grows-is .2)
@@ -323,19 +324,19 @@ module _ (n : Numbers) (S L : List ℕ) (m : Memories) (k : ℕ) (e : k ≡ caus
       given d i t q clears f g h l y =
           rw (f, decided-outcome p m len k cause-is z d i t) (record { view-is = ap shown h; changes-is = refl; record-is = g; memory-is = y })
 
-      pub reserve-settled : (b : Bool) → b ≡ settled (n .slots) (bare n) len → b ≡ true → (q : Numbers) → q ≡ numbersOf (offered (bare n) len)
+      pub reserve-settled : (u : FastPath) → u ≡ fastPath (n .slots) (bare n) len → u .settled ≡ true → (q : Numbers) → q ≡ numbersOf (offered (bare n) len)
           → r ≡ lent.reserved q 0 false → Reserves p m (reserve (n .slots) p m len) r
       unfolding perform
-      reserve-settled b i t q f g =
-          let y = sym (i ∙ settled-filled n S L o len) ∙ t in
+      reserve-settled u i t q f g =
+          let y = sym (ap (λ (x : FastPath). x .settled) i ∙ settled-filled n S L o len) ∙ t in
           given (unmoved p len) (settled-place p len y) (settled-fits p m len k cause-is z y) q false g (rw f refl)
           (rw f (reservation-filled (numbersOf (offered (bare n) len)) S L o)) m refl
 
-      pub reserve-over : (b : Bool) → b ≡ startsOver (bare n) len → b ≡ true → (a : Numbers) → a ≡ numbersOf (placed (bare n) Back 0 0 0 0)
+      pub reserve-over : (u : FastPath) → u ≡ fastPath (n .slots) (bare n) len → u .«starts_over» ≡ true → (a : Numbers) → a ≡ numbersOf (placed (bare n) Back 0 0 0 0)
           → (q : Numbers) → q ≡ numbersOf (offered (bare a) len) → r ≡ lent.reserved q 0 false → Reserves p m (reserve (n .slots) p m len) r
       unfolding perform
-      reserve-over b i t a j q f g =
-          let y = sym (i ∙ over-filled n S L o len) ∙ t in
+      reserve-over u i t a j q f g =
+          let y = sym (ap (λ (x : FastPath). x .«starts_over») i ∙ over-filled n S L o len) ∙ t in
           given (unmoved (placed p Back 0 0 0 0) len) (over-is p m len k cause-is z y) (over-fits p m len k cause-is z) q false g (rw (f, j) refl) (rw (f, j) refl) m refl
 
       pub reserve-short : (s : Start) → s ≡ startOf n → (d : Decided)
@@ -367,12 +368,12 @@ module _ (n : Numbers) (S L : List ℕ) (m : Memories) (k : ℕ) (e : k ≡ caus
 
 -- a reserve that clears bytes after the kept ones
 pub reserve-grown : (n : Numbers) (S L pool overflow : List ℕ) (k : ℕ) → k ≡ cause (n .slots) (plain n S L) (memories pool overflow) → (len : ℕ) (r : Reserving)
-    → (o : Rest) → Whole o → k ≡ 0 → (b : Bool) → b ≡ growing (n .slots) (bare n) len → b ≡ true
+    → (o : Rest) → Whole o → k ≡ 0 → (u : FastPath) → u ≡ fastPath (n .slots) (bare n) len → u .growing ≡ true
     → (q : Numbers) → q ≡ numbersOf (offered (keptTo (bare n) (n .cursor + len)) len) → (after : List ℕ) → after ≡ zeroed overflow (n .kept) (n .cursor + len)
     → r ≡ lent.reserved q 0 false → Reserves (filled n S L o) (memories pool after) (reserve (n .slots) (filled n S L o) (memories pool overflow) len) r
 unfolding perform act
-reserve-grown n S L pool overflow k e len r o W z b i t q f after a g =
-    let y = sym (i ∙ growing-filled n S L o len) ∙ t in
+reserve-grown n S L pool overflow k e len r o W z u i t q f after a g =
+    let y = sym (ap (λ (x : FastPath). x .growing) i ∙ growing-filled n S L o len) ∙ t in
     given n S L (memories pool overflow) k e len r o W z (grown (filled n S L o) len) (growing-place (filled n S L o) len y .0)
     (grown-fits (filled n S L o) (memories pool overflow) len k (cause-is n S L (memories pool overflow) k e len r o W) z y) q false g (rw f refl)
     (rw f (reservation-filled (numbersOf (offered (keptTo (bare n) (n .cursor + len)) len)) S L o)) (memories pool after) (rw a refl)

@@ -13,26 +13,22 @@ use Rattle.buffer_pool.specs.declared.buffer_pool.PoolFront.{PoolFront}
 use Rattle.buffer_pool.specs.declared.buffer_pool.PoolMode.{PoolMode}
 use Rattle.buffer_pool.specs.declared.buffer_pool.PoolMode.the-variants.{Back, Front, Alloc}
 use Rattle.buffer_pool.specs.declared.numbers.Numbers.{Numbers}
+use Rattle.buffer_pool.specs.declared.placing.FastPath.{FastPath}
 use Rattle.buffer_pool.specs.Record.{placed}
 use Rattle.buffer_pool.specs.Numbers.{bare}
 use Rattle.buffer_pool.specs.Moves.{Grow, within}
 use Rattle.buffer_pool.specs.Placing.{Decision, stay, first, tailFits, headFits, backFits, backOn, backLayer, frontFits, frontOn, frontLayer, stays, allocOn, allocLayer, layer, placeOf, isAlloc, resets, resetOn, resetMoves, reset, place}
-use Rattle.buffer_pool.specs.Deciding.{keepsIn, fitsIn, settled, startsOver, growingHere, growing, keptTo, offered}
+use Rattle.buffer_pool.specs.Deciding.{keepsIn, fitsIn, settled, startsOver, growingHere, growing, path, fastPath, keptTo, offered}
 
 -- ---- What the code tests
 
-module _ (n : Numbers) (len : ℕ) (b : Bool) where
-  pub fits-back : n .mode ≡ Back → b ≡ backFits (n .slots) (bare n) len → b ≡ fitsIn (n .mode) (n .slots) (bare n) len
-  unfolding fitsIn
-  fits-back m e = e ∙ ap (λ (x : PoolMode). fitsIn x (n .slots) (bare n) len) (sym m)
+both-false : (o : Bool) → path true false false ≡ path true false (o && false)
+both-false true = refl
+both-false false = refl
 
-  pub fits-front : (f : PoolFront) → n .mode ≡ Front f → b ≡ (ltb (f .len) (f .«back_start») && frontFits (bare n) (f .«byte_capacity») len) → b ≡ fitsIn (n .mode) (n .slots) (bare n) len
-  unfolding fitsIn
-  fits-front f m e = e ∙ ap (λ (x : PoolMode). fitsIn x (n .slots) (bare n) len) (sym m)
-
-  pub fits-alloc : n .mode ≡ Alloc → b ≡ (keepsIn (n .slots) (bare n) && leb (n .cursor + len + 0) (n .kept)) → b ≡ fitsIn (n .mode) (n .slots) (bare n) len
-  unfolding fitsIn
-  fits-alloc m e = e ∙ ap (λ (x : PoolMode). fitsIn x (n .slots) (bare n) len) (sym m)
+both-open : (o : Bool) → path false false o ≡ path false false (o && true)
+both-open true = refl
+both-open false = refl
 
 -- does A keep the frame?
 module _ (n : Numbers) (s : Bool) (e : s ≡ stays (n .slots) false (bare n)) where
@@ -49,53 +45,46 @@ module _ (n : Numbers) (s : Bool) (e : s ≡ stays (n .slots) false (bare n)) wh
     unfolding keepsIn
     tail-decides z k g = rw (← e, t, ← f, eq-eqb l 0 z, g)
 
-module _ (n : Numbers) (len : ℕ) (s : Bool) (e : s ≡ keepsIn (n .slots) (bare n)) where
-  pub gone : not s ≡ true → false ≡ (keepsIn (n .slots) (bare n) && leb (n .cursor + len + 0) (n .kept))
-  gone t = rw (← e, not-true s t)
+-- the path of a frame in A
+module _ (n : Numbers) (len : ℕ) (s : Bool) (e : s ≡ keepsIn (n .slots) (bare n)) (p : FastPath) where
+  abbrev in-alloc : FastPath
+  in-alloc = path (fitsIn Alloc (n .slots) (bare n) len) false (growingHere (n .slots) (bare n) len)
 
-  pub not-growing : not s ≡ true → false ≡ growingHere (n .slots) (bare n) len
-  unfolding growingHere
-  not-growing t = rw (← e, not-true s t)
+  pub path-gone : not s ≡ true → p ≡ path false false false → p ≡ in-alloc
+  unfolding fitsIn growingHere
+  path-gone t f = f ∙ rw (← e, not-true s t)
 
-  module _ (t : not s ≡ false) where
-    pub kept-here : (b : Bool) → b ≡ leb (n .cursor + len + 0) (n .kept) → b ≡ (keepsIn (n .slots) (bare n) && leb (n .cursor + len + 0) (n .kept))
-    kept-here b f = f ∙ rw (← e, not-false s t)
+  module _ (t : not s ≡ false) (k : Bool) (g : k ≡ leb (n .cursor + len + 0) (n .kept)) where
+    pub path-kept : k ≡ true → p ≡ path true false false → p ≡ in-alloc
+    unfolding fitsIn growingHere
+    path-kept h f = f ∙ rw (← e, not-false s t, ← g, h) (both-false (leb (n .cursor + len + 0) (n .overflow)))
 
-    module _ (o : Bool) (f : o ≡ leb (n .cursor + len + 0) (n .overflow)) where
-      pub no-room : not o ≡ true → false ≡ growingHere (n .slots) (bare n) len
-      unfolding growingHere
-      no-room h = rw (← e, not-false s t, ← f, not-true o h)
+    pub path-past : k ≡ false → (o : Bool) → o ≡ leb (n .cursor + len + 0) (n .overflow) → p ≡ path false false o → p ≡ in-alloc
+    unfolding fitsIn growingHere
+    path-past h o i f = f ∙ rw (← e, not-false s t, ← g, h, ← i) (both-open o)
 
-      pub past-kept : not o ≡ false → (k : Bool) → k ≡ leb (n .cursor + len + 0) (n .kept) → not k ≡ growingHere (n .slots) (bare n) len
-      unfolding growingHere
-      past-kept h k g = rw (← e, not-false s t, ← f, not-false o h, g)
-
-module _ (n : Numbers) (len : ℕ) (r : Bool) (e : r ≡ resets (bare n)) where
-  pub unsettled : r ≡ true → false ≡ settled (n .slots) (bare n) len
-  unfolding settled
-  unsettled t = rw (← e, t)
-
-  pub settled-fits : r ≡ false → (b : Bool) → b ≡ fitsIn (n .mode) (n .slots) (bare n) len → b ≡ settled (n .slots) (bare n) len
-  unfolding settled
-  settled-fits t b f = f ∙ rw (← e, t)
-
-  pub still : r ≡ true → false ≡ growing (n .slots) (bare n) len
-  unfolding growing
-  still t = rw (← e, t)
+-- the path of any reserve
+module _ (n : Numbers) (len : ℕ) (r : Bool) (e : r ≡ resets (bare n)) (p : FastPath) where
+  pub path-over : r ≡ true → (b : Bool) → b ≡ startsOver (bare n) len → p ≡ path false b false → p ≡ fastPath (n .slots) (bare n) len
+  unfolding settled growing
+  path-over t b i f = f ∙ rw (i, ← e, t)
 
   module _ (t : r ≡ false) where
-    pub still-back : n .mode ≡ Back → false ≡ growing (n .slots) (bare n) len
-    unfolding growing
-    still-back m = rw (← e, t, m)
+    pub path-back : n .mode ≡ Back → (b : Bool) → b ≡ backFits (n .slots) (bare n) len → p ≡ path b false false → p ≡ fastPath (n .slots) (bare n) len
+    unfolding settled startsOver growing fitsIn
+    path-back m b i f = f ∙ rw (i, ← e, t, m)
 
-    pub still-front : (f : PoolFront) → n .mode ≡ Front f → false ≡ growing (n .slots) (bare n) len
-    unfolding growing
-    still-front f m = rw (← e, t, m)
+    pub path-front : (g : PoolFront) → n .mode ≡ Front g → (b : Bool) → b ≡ (ltb (g .len) (g .«back_start») && frontFits (bare n) (g .«byte_capacity») len)
+        → p ≡ path b false false → p ≡ fastPath (n .slots) (bare n) len
+    unfolding settled startsOver growing fitsIn
+    path-front g m b i f = f ∙ rw (i, ← e, t, m)
 
-    pub growing-alloc : n .mode ≡ Alloc → (b : Bool) → b ≡ growingHere (n .slots) (bare n) len → b ≡ growing (n .slots) (bare n) len
-    unfolding growing
-    growing-alloc m b f = f ∙ rw (← e, t, m)
+    pub path-alloc : n .mode ≡ Alloc → p ≡ path (fitsIn Alloc (n .slots) (bare n) len) false (growingHere (n .slots) (bare n) len)
+        → p ≡ fastPath (n .slots) (bare n) len
+    unfolding settled startsOver growing
+    path-alloc m f = f ∙ rw (← e, t, m)
 
+module _ (n : Numbers) (len : ℕ) (r : Bool) (e : r ≡ resets (bare n)) where
   pub no-reset : not r ≡ true → false ≡ startsOver (bare n) len
   unfolding startsOver
   no-reset t = rw (← e, not-true r t)

@@ -14,6 +14,7 @@ use Rattle.buffer_pool.specs.declared.buffer_pool.PoolMode.the-variants.
 use Rattle.buffer_pool.specs.declared.numbers.Numbers.{Numbers}
 use Rattle.buffer_pool.specs.declared.route.Route.{Route}
 use Rattle.buffer_pool.specs.declared.placing.Cleared.{Cleared}
+use Rattle.buffer_pool.specs.declared.placing.FastPath.{FastPath}
 use Rattle.buffer_pool.specs.declared.placing.Start.{Start}
 use Rattle.buffer_pool.specs.declared.placing.ModeStep.{ModeStep}
 use Rattle.buffer_pool.specs.declared.placing.Decided.{Decided}
@@ -198,6 +199,13 @@ growingHere w r len = keepsIn w r && (leb (r .cursor + len + 0) (r .overflow) &&
 -- no reset, and the frame stays in A with more kept bytes
 unfoldable pub growing : ℕ → BufferPool → ℕ → Bool
 growing w r len = not (resets r) && (isAlloc (r .mode) && growingHere w r len)
+
+-- which of these a reserve is, if any
+abbrev pub path : Bool → Bool → Bool → FastPath
+path settled over growing = record { settled = settled; «starts_over» = over; growing = growing }
+
+abbrev pub fastPath : ℕ → BufferPool → ℕ → FastPath
+fastPath w r len = path (settled w r len) (startsOver r len) (growing w r len)
 
 -- r with so many kept bytes of the overflow
 abbrev pub keptTo : BufferPool → ℕ → BufferPool

@@ -1,5 +1,5 @@
 -- The soundness test as the code makes it (src/sound.rt), in three parts: of a record's numbers, of a front, and of the slots with what
--- is left. The starts and lengths are lent beside the numbers. proofs/SoundTestLaws.antt shows that the three together are the test of
+-- is left. The starts and lengths are lent beside the numbers. `sound-parts` (proofs/SoundParts.antt) shows that the three together are the test of
 -- Soundness.antt.
 use mathlib.Core.Path.{_≡_}
 use mathlib.Core.Bool.{Bool, true, false, _&&_, _||_}

@@ -36,10 +36,8 @@ use crate::numbers::Numbers;
 use crate::placing::Decided;
 use crate::placing::Start;
 use crate::placing::begin;
-use crate::placing::is_growing;
-use crate::placing::is_settled;
+use crate::placing::fast_path;
 use crate::placing::place;
-use crate::placing::starts_over;
 use crate::refusals;
 use crate::route::slide;
 use crate::route::travel;
@@ -455,14 +453,15 @@ impl Numbers {
         if number != 0 {
             return unreserved(self, number);
         }
-        if is_settled(self, len) {
+        let path = fast_path(self, len);
+        if path.settled {
             return reserved(offered(self, len), 0, false);
         }
-        if starts_over(self, len) {
+        if path.starts_over {
             let start = self.placed(PoolMode::Back, 0, 0, 0, 0);
             return reserved(offered(start, len), 0, false);
         }
-        if is_growing(self, len) {
+        if path.growing {
             return reserved(grow(self, overflow, len), 0, false);
         }
         place_anew(self, starts, lengths, pool, overflow, len)

@@ -8,7 +8,7 @@ ghost use Rattle.buffer_pool.specs.declared.buffer_pool.PoolMode.the-var
 ghost use Rattle.buffer_pool.specs.Numbers.{plain, bare};
 ghost use Rattle.buffer_pool.specs.Placing as spec;
 ghost use Rattle.buffer_pool.specs.Deciding as deciding;
-ghost use Rattle.buffer_pool.specs.Deciding.{Worded, Placeable, Reaches, Decides, step, goneOut, layerOf, routeMoves, finishedOn, following, startOn, startOf, keepsIn, fitsIn, settled, startsOver, growingHere, growing};
+ghost use Rattle.buffer_pool.specs.Deciding.{Worded, Placeable, Reaches, Decides, step, goneOut, layerOf, routeMoves, finishedOn, following, startOn, startOf, keepsIn, fitsIn, startsOver, growingHere};
 use crate::buffer_pool::BufferPool;
 use crate::buffer_pool::PoolMode;
 use crate::guard::entries;
@@ -44,6 +44,14 @@ pub struct Decided {
     pub changes: u32,
     pub kept: u64,
     pub route: Route,
+}
+
+// Whether a reserve moves no byte: the frame stays where it is and fits; it starts over, empty, at the pool's start; or it stays in the
+// overflow, which grows.
+pub struct FastPath {
+    pub settled: bool,
+    pub starts_over: bool,
+    pub growing: bool,
 }
 
 // What a reserve starts from after a reset: the numbers, whether the frame is brought in from the overflow, and whether the starts and
@@ -342,43 +350,8 @@ fn keeps(n: Numbers) -> bool
     trailing(n.slots, n.live) == 0
 }
 
-// Does the overflow keep the frame, with `len` bytes after it that are kept?
-fn kept_fits(n: Numbers, len: u64) -> bool
-    requires { ⌜ (Worded (bare n)) × (n .«back_start» + n .«back_len» ≤ n .slots) ⌝ }
-    ensures { λ r. ⌜ r ≡ (keepsIn (n .slots) (bare n) && leb (n .cursor + len + 0) (n .kept)) ⌝ }
-{
-    if !keeps(n) {
-        return false;
-    }
-    in_bounds(n.kept, n.cursor, len, 0)
-}
-
-// Does the frame fit where it is, in its mode? In the overflow, within the kept bytes.
-fn fits(n: Numbers, len: u64) -> bool
-    requires { ⌜ (Worded (bare n)) × (n .«back_start» + n .«back_len» ≤ n .slots) ⌝ }
-    ensures { λ r. ⌜ r ≡ fitsIn (n .mode) (n .slots) (bare n) len ⌝ }
-{
-    let mode = n.mode;
-    match mode {
-        PoolMode::Back => pool_back::back_fits(n, len),
-        PoolMode::Front(f) => pool_front::front_fits(n, f, len),
-        PoolMode::Alloc => kept_fits(n, len),
-    }
-}
-
-// Does the frame stay where it is, with no reset? Then a reserve moves no byte.
-pub(crate) fn is_settled(n: Numbers, len: u64) -> bool
-    requires { ⌜ (Worded (bare n)) × (n .«back_start» + n .«back_len» ≤ n .slots) ⌝ }
-    ensures { λ r. ⌜ r ≡ settled (n .slots) (bare n) len ⌝ }
-{
-    if resets(n) {
-        return false;
-    }
-    fits(n, len)
-}
-
 // Does a reserve begin with a reset of an empty frame in the pool, and fit? Then it moves no byte.
-pub(crate) fn starts_over(n: Numbers, len: u64) -> bool
+fn starts_over(n: Numbers, len: u64) -> bool
     ensures { λ r. ⌜ r ≡ startsOver (bare n) len ⌝ }
 {
     if !resets(n) {
@@ -395,34 +368,44 @@ pub(crate) fn starts_over(n: Numbers, len: u64) -> bool
     }
 }
 
-// Does the overflow keep the frame, with `len` bytes after it that end past the kept ones and within the overflow?
-fn grows_here(n: Numbers, len: u64) -> bool
-    requires { ⌜ (Worded (bare n)) × (n .«back_start» + n .«back_len» ≤ n .slots) ⌝ }
-    ensures { λ r. ⌜ r ≡ growingHere (n .slots) (bare n) len ⌝ }
+// Which of the reserves that move no byte this is, if any.
+fn path(settled: bool, starts_over: bool, growing: bool) -> FastPath
+    ensures { λ r. ⌜ r ≡ deciding.path settled «starts_over» growing ⌝ }
 {
-    if !keeps(n) {
-        return false;
+    FastPath {
+        settled: settled,
+        starts_over: starts_over,
+        growing: growing,
     }
-    if !in_bounds(n.overflow, n.cursor, len, 0) {
-        return false;
-    }
-    !in_bounds(n.kept, n.cursor, len, 0)
 }
 
-// Does the frame stay in the overflow, with no reset, and need zeros after the kept bytes, which the overflow has room for? Then a
-// reserve moves no byte and clears some.
-pub(crate) fn is_growing(n: Numbers, len: u64) -> bool
+// The same of a frame in the overflow, with no reset.
+fn alloc_path(n: Numbers, len: u64) -> FastPath
     requires { ⌜ (Worded (bare n)) × (n .«back_start» + n .«back_len» ≤ n .slots) ⌝ }
-    ensures { λ r. ⌜ r ≡ growing (n .slots) (bare n) len ⌝ }
+    ensures { λ r. ⌜ r ≡ deciding.path (fitsIn Alloc (n .slots) (bare n) len) false (growingHere (n .slots) (bare n) len) ⌝ }
+{
+    if !keeps(n) {
+        return path(false, false, false);
+    }
+    if in_bounds(n.kept, n.cursor, len, 0) {
+        return path(true, false, false);
+    }
+    path(false, false, in_bounds(n.overflow, n.cursor, len, 0))
+}
+
+// The same of every reserve: most move no byte, and are found here before the whole decision is made.
+pub(crate) fn fast_path(n: Numbers, len: u64) -> FastPath
+    requires { ⌜ (Worded (bare n)) × (n .«back_start» + n .«back_len» ≤ n .slots) ⌝ }
+    ensures { λ r. ⌜ r ≡ deciding.fastPath (n .slots) (bare n) len ⌝ }
 {
     if resets(n) {
-        return false;
+        return path(false, starts_over(n, len), false);
     }
     let mode = n.mode;
     match mode {
-        PoolMode::Back => false,
-        PoolMode::Front(_) => false,
-        PoolMode::Alloc => grows_here(n, len),
+        PoolMode::Back => path(pool_back::back_fits(n, len), false, false),
+        PoolMode::Front(f) => path(pool_front::front_fits(n, f, len), false, false),
+        PoolMode::Alloc => alloc_path(n, len),
     }
 }
 

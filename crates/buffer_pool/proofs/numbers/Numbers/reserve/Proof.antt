@@ -27,8 +27,8 @@ same-length-2 c = search needs
 returns : tie.Need-returns
 returns c = λ o W. search reserve-turned
 
-is-settled-requires : tie.Need-is-settled-requires
-is-settled-requires c κs = (search (passed-worded, needs), search (passed-back, needs))
+fast-path-requires : tie.Need-fast-path-requires
+fast-path-requires c κs = (search (passed-worded, needs), search (passed-back, needs))
 
 offered-requires : tie.Need-offered-requires
 offered-requires c κs = search needs
@@ -44,9 +44,6 @@ same-length-4 c = search needs
 
 returns-2 : tie.Need-returns-2
 returns-2 c = λ o W. search reserve-settled
-
-starts-over-requires : tie.Need-starts-over-requires
-starts-over-requires c κs = search needs
 
 placed-requires : tie.Need-placed-requires
 placed-requires c κs = search needs
@@ -66,15 +63,12 @@ same-length-6 c = search needs
 returns-3 : tie.Need-returns-3
 returns-3 c = λ o W. search reserve-over
 
-is-growing-requires : tie.Need-is-growing-requires
-is-growing-requires c κs = (search (passed-worded, needs), search (passed-back, needs))
-
 grow-requires : tie.Need-grow-requires
 grow-requires c κs =
-    let a = c .before .before .before .before .before .before .before .before .before .before .before .before .before .before .before .args in
-    let g = c .before .before .before .before .before .before .before .before .guard in
+    let a = c .before .before .before .before .before .before .before .before .before .before .before .before .before .args in
+    let g = c .before .before .before .before .before .before .guard in
     let m = memories (now (a .pool)) (now (a .overflow)) in
-    let i = c .before .before .is-growing in (
+    let i = c .before .before .before .before .fast-path in (
       grown-kept (a .self) (now (a .starts)) (now (a .lengths)) m (g .result) (g .ensures) (search needs) (a .len) (i .result) (i .ensures) (search needs),
       grown-overflow (a .self) (now (a .starts)) (now (a .lengths)) m (g .result) (g .ensures) (search needs) (a .len) (i .result) (i .ensures) (search needs) _ (search needs),
     )
@@ -114,20 +108,18 @@ reserve-spec =
     same-length
     same-length-2
     returns
-    is-settled-requires
+    fast-path-requires
     offered-requires
     reserved-requires
     same-length-3
     same-length-4
     returns-2
-    starts-over-requires
     placed-requires
     offered-requires-2
     reserved-requires-2
     same-length-5
     same-length-6
     returns-3
-    is-growing-requires
     grow-requires
     reserved-requires-3
     same-length-7
