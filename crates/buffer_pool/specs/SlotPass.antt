@@ -1,6 +1,6 @@
 -- The soundness test as the code makes it (src/sound.rt), in three parts: of a record's numbers, of a front, and of the slots with what
--- is left. The starts and lengths are lent beside the numbers. `sound-parts` (proofs/SoundParts.antt) shows that the three together are the test of
--- Soundness.antt.
+-- is left. The starts and lengths are lent beside the numbers. `sound-parts` (proofs/SoundParts.antt) shows that the three together are
+-- the test of Soundness.antt.
 use mathlib.Core.Path.{_≡_}
 use mathlib.Core.Bool.{Bool, true, false, _&&_, _||_}
 use mathlib.Core.List.{List}
@@ -28,18 +28,18 @@ ordered w starts lengths live (suc k) i end to =
     && ordered w starts lengths live k (suc i) (getD starts i 0 + getD lengths i 0) to))
     (ordered w starts lengths live k (suc i) end to)
 
--- the bits of the slots after index i, at the top of a word of 32 bits
+-- the bits of the slots from index i on, at the top of a word of 32 bits
 abbrev pub bitsAfter : ℕ → ℕ → ℕ → ℕ
 bitsAfter w live i = (live * 2 ^ (32 - w + i)) % 2 ^ 32
 
--- the slots from index first to i are in order and the last end is end: what is left decides
+-- the slots from index first up to index i are in order, and the last live one ends at end: those from index i on decide
 pub record Passed (w : ℕ) (starts lengths : List ℕ) (live first from i end bits : ℕ) : Type 0 where
   pub further : first ≤ i
   pub within : i ≤ w
   pub bits-are : bits ≡ bitsAfter w live i
   pub rest-decides : (to : ℕ) → ordered w starts lengths live (w - first) first from to ≡ ordered w starts lengths live (w - i) i end to
 
--- a run of live slots from index first on: one is not in order, or all are and the next slot is free
+-- a run of live slots from index first on: one is not in order, or all are and the next slot, if there is one, is free
 pub record Runs (w : ℕ) (starts lengths : List ℕ) (live first from : ℕ) (r : RunEnd) : Type 0 where
   pub fails : r .sound ≡ false → (to : ℕ) → ordered w starts lengths live (w - first) first from to ≡ false
   pub passes : r .sound ≡ true → Passed w starts lengths live first from (r .next) (r .end) (r .bits)

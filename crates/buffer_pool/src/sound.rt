@@ -20,8 +20,8 @@ use crate::slice::trailing;
 // The top bit of a word of 32.
 const TOP: u32 = 2147483648;
 
-// Where a run of live slots ends: are they in order; if so, the index of the next slot, which is free, the end of the last live one, and
-// the bits of the slots from there on, at the top of a word.
+// Where a run of live slots ends: are they in order; if so, the index after them, the end of the last one, and the bits of the slots from
+// that index on, at the top of a word.
 struct RunEnd {
     sound: bool,
     next: usize,
@@ -41,8 +41,8 @@ fn out_of_order() -> RunEnd
     }
 }
 
-// The live slots up to the next free one, none empty, after the index `first` and the end `from`. `bits` are those of the slots from there
-// on, of so many.
+// The live slots from the index `first` up to a free one: is each not empty, and does it start at or after the end of the one before, the
+// first at or after `from`? `bits` are those of the slots from that index on, of so many.
 fn run<'a>(
     starts: &'a [u32; BufferPool::MOST_SLOTS],
     lengths: &'a [u32; BufferPool::MOST_SLOTS],
