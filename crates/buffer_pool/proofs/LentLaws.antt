@@ -52,12 +52,15 @@ module _ (n : Numbers) (S L : List ℕ) (m : Memories) (k : ℕ) (e : k ≡ caus
   pub live-fits : k ≡ 0 → n .live < 2 ^ n .slots
   live-fits z = through-orderly (plain n S L) m k e z .ready .slots .live-fits
 
--- the frame is that of the numbers
+-- frame and reservation are those of the numbers
 module _ (n : Numbers) (S L : List ℕ) (o : Rest) where
   pub frame-filled : (mode : PoolMode) → frameOf mode (bare n) ≡ frameOf mode (filled n S L o)
   frame-filled Back = refl
   frame-filled (Front f) = refl
   frame-filled Alloc = refl
+
+  pub reservation-filled : reservation (bare n) ≡ reservation (filled n S L o)
+  reservation-filled = ap (λ (f : Place). at (f .memory) (f .start + f .length) (n .reserved)) (frame-filled (n .mode))
 
 -- ---- A frame of another length
 
@@ -199,7 +202,7 @@ module _ (n : Numbers) (S L : List ℕ) (m : Memories) (k : ℕ) (e : k ≡ caus
     unfolding reservationView
     reservation-shown z x f g o W =
         through-view (filled n S L o) m k (filled-cause n S L m k e o W) (reservation (filled n S L o)) z x
-        (f ∙ ap (λ (y : Place). at (y .memory) (y .start + y .length) (n .reserved)) (frame-filled n S L o (n .mode))) v g
+        (f ∙ reservation-filled n S L o) v g
 
   -- the reservation starts at a 64-bit number
   pub reservation-start : k ≡ 0 → frameOf (n .mode) (bare n) .start + frameOf (n .mode) (bare n) .length ≤ 18446744073709551615

@@ -14,13 +14,12 @@ use Rattle.laws.proofs.Tests.{both-true, no-true}
 use Rattle.buffer_pool.specs.declared.buffer_pool.BufferPool.{BufferPool}
 use Rattle.buffer_pool.specs.declared.buffer_pool.PoolMode.{PoolMode}
 use Rattle.buffer_pool.specs.declared.buffer_pool.PoolMode.the-variants.{Back, Front, Alloc}
-use Rattle.buffer_pool.specs.declared.buffer_pool.Place.{Place}
 use Rattle.buffer_pool.specs.declared.buffer_pool.Answer.{Answer}
 use Rattle.buffer_pool.specs.declared.lent.Reserving.{Reserving}
 use Rattle.buffer_pool.specs.Record.{placed, withoutEntries}
 use Rattle.buffer_pool.specs.Numbers.{Rest, Whole, numbersOf, filled, plain, bare, zeros, restOf, withNumbers}
 use Rattle.buffer_pool.specs.Sound.{Orderly}
-use Rattle.buffer_pool.specs.Steps.{called, refused, at, frame, reservation, reserveOn, reserveStep}
+use Rattle.buffer_pool.specs.Steps.{called, refused, frame, reservation, reserveOn, reserveStep}
 use Rattle.buffer_pool.specs.Steps as steps
 use Rattle.buffer_pool.specs.Soundness.{sound}
 use Rattle.buffer_pool.specs.Values.{values}
@@ -31,8 +30,8 @@ use Rattle.buffer_pool.proofs.Soundness.{sound-use}
 use Rattle.buffer_pool.proofs.MovesInside.{moves-inside}
 use Rattle.buffer_pool.proofs.ReserveKept.{place-orderly}
 use Rattle.buffer_pool.proofs.Unchanged.{place-capacity, place-overflow}
-use Rattle.buffer_pool.proofs.RestLaws.{restored, cause-rest, place-rest, long-rest}
-use Rattle.buffer_pool.proofs.LentLaws.{frame-filled, own}
+use Rattle.buffer_pool.proofs.RestLaws.{restored, place-rest, long-rest}
+use Rattle.buffer_pool.proofs.LentLaws.{filled-cause, frame-filled, reservation-filled, own}
 use Rattle.buffer_pool.proofs.Unmoved.{unmoved, settled-place, over-place, grown, growing-place}
 use Rattle.buffer_pool.proofs.ResetLaws.{start-placeable, place-long, place-is}
 use Rattle.buffer_pool.proofs.CallLaws.{turned-away, let-through, through-sound, through-orderly, through-worded, through-pool, through-overflow, frame-end, orderly-placeable, orderly-cursor}
@@ -44,7 +43,7 @@ use Rattle.buffer_pool.specs.Moves.{Memories, memories, In, Down, act, p
 use Rattle.buffer_pool.specs.Placing.{Decision, grows, backFits, frontFits, stays, clearable, isAlloc, resets, placeOf, place, tooLong}
 use Rattle.buffer_pool.specs.Deciding.{Worded, Placeable, Decides, routeMoves, startOn, startOf, entries, startMoves, allMoves, keepsIn, fitsIn, settled, startsOver, fastPath, growingHere, growing, keptTo, offered}
 use Rattle.buffer_pool.proofs.MovesMade.{perform-append, perform-within}
-use Rattle.buffer_pool.proofs.RouteLaws.{inside-append, within-pool}
+use Rattle.buffer_pool.proofs.RouteLaws.{inside-parts, within-pool}
 
 -- ---- The moves of the reset
 
@@ -73,20 +72,20 @@ module _ (n : Numbers) (s : Start) (c o : ℕ) (h : allInside c o (startMoves n 
     unfolding inside
     brought-overflow k = omega (arith, k t, leb-true (n .cursor + (n .kept - n .cursor)) o second)
 
-  pub slid-inside : s .brought ≡ false → allInside c 0 (within (n .«raw_offset») (n .«raw_len») (s .numbers .«raw_offset»)) ≡ true
+  pub reset-to-inside : s .brought ≡ false → allInside c 0 (within (n .«raw_offset») (n .«raw_len») (s .numbers .«raw_offset»)) ≡ true
   unfolding startMoves
-  slid-inside t = within-pool c o (n .«raw_offset») (n .«raw_len») (s .numbers .«raw_offset») (rw t at h)
+  reset-to-inside t = within-pool c o (n .«raw_offset») (n .«raw_len») (s .numbers .«raw_offset») (rw t at h)
 
 module _ (n : Numbers) (s : Start) (pool overflow : List ℕ) where
-  pub restarts-brought : s .brought ≡ true → (to left : List ℕ) → to ≡ copied overflow 0 (n .cursor) pool 0
+  pub reset-brought : s .brought ≡ true → (to left : List ℕ) → to ≡ copied overflow 0 (n .cursor) pool 0
       → left ≡ moved overflow (n .cursor) (n .kept - n .cursor) 0 → memories to left ≡ perform (startMoves n s) (memories pool overflow)
   unfolding startMoves perform act
-  restarts-brought t to left a b = rw (t, a, b) refl
+  reset-brought t to left a b = rw (t, a, b) refl
 
-  pub restarts-slid : s .brought ≡ false → (to : List ℕ) → to ≡ moved pool (n .«raw_offset») (n .«raw_len») (s .numbers .«raw_offset»)
+  pub reset-moved : s .brought ≡ false → (to : List ℕ) → to ≡ moved pool (n .«raw_offset») (n .«raw_len») (s .numbers .«raw_offset»)
       → memories to overflow ≡ perform (startMoves n s) (memories pool overflow)
   unfolding startMoves
-  restarts-slid t to a = rw (t, a) (sym (perform-within (memories pool overflow) (n .«raw_offset») (n .«raw_len») (s .numbers .«raw_offset»)))
+  reset-moved t to a = rw (t, a) (sym (perform-within (memories pool overflow) (n .«raw_offset») (n .«raw_len») (s .numbers .«raw_offset»)))
 
 -- ---- The growth
 
@@ -114,29 +113,29 @@ perform-grows pool overflow start end = go (ltb start end)
 module _ (n : Numbers) (s : Start) (d : Decided) (c o : ℕ) (h : allInside c o (allMoves n s d) ≡ true) where
   parts : (allInside c o (startMoves n s) ≡ true) × (allInside c o (routeMoves (d .route) ++ grows (ltb (d .kept) (d .numbers .kept)) (d .kept) (d .numbers .kept)) ≡ true)
   unfolding allMoves
-  parts = inside-append c o (startMoves n s) _ h
+  parts = inside-parts c o (startMoves n s) _ h
 
-  pub restart-inside : allInside c o (startMoves n s) ≡ true
-  restart-inside = parts .0
+  pub reset-inside : allInside c o (startMoves n s) ≡ true
+  reset-inside = parts .0
 
   rest : (allInside c o (routeMoves (d .route)) ≡ true) × (allInside c o (grows (ltb (d .kept) (d .numbers .kept)) (d .kept) (d .numbers .kept)) ≡ true)
-  rest = inside-append c o (routeMoves (d .route)) _ (parts .1)
+  rest = inside-parts c o (routeMoves (d .route)) _ (parts .1)
 
   module _ (c′ o′ : ℕ) (e : c′ ≡ c) (f : o′ ≡ o) where
-    pub travel-inside : allInside c′ o′ (routeMoves (d .route)) ≡ true
-    travel-inside = rw (e, f) (rest .0)
+    pub route-inside : allInside c′ o′ (routeMoves (d .route)) ≡ true
+    route-inside = rw (e, f) (rest .0)
 
   pub growth-inside : (o′ : ℕ) → o′ ≡ o → d .kept < d .numbers .kept → d .numbers .kept ≤ o′
   unfolding allInside inside
   growth-inside o′ f l =
       rw f (leb-true (d .numbers .kept) o (both-true (leb (d .kept) (d .numbers .kept)) _ (both-true (leb (d .kept) (d .numbers .kept) && leb (d .numbers .kept) o) true (rw (lt-ltb (d .kept) (d .numbers .kept) l) at (rest .1)) .0) .1))
 
-pub carried : (n : Numbers) (s : Start) (d : Decided) (pool overflow p q p′ q′ left : List ℕ)
+pub all-made : (n : Numbers) (s : Start) (d : Decided) (pool overflow p q p′ q′ left : List ℕ)
     → memories p q ≡ perform (startMoves n s) (memories pool overflow) → memories p′ q′ ≡ perform (routeMoves (d .route)) (memories p q)
     → left ≡ pick (ltb (d .kept) (d .numbers .kept)) (zeroed q′ (d .kept) (d .numbers .kept)) q′
     → memories p′ left ≡ perform (allMoves n s d) (memories pool overflow)
 unfolding allMoves
-carried n s d pool overflow p q p′ q′ left a b e =
+all-made n s d pool overflow p q p′ q′ left a b e =
     rw (
       perform-append (startMoves n s) _ (memories pool overflow),
       ← a,
@@ -166,10 +165,6 @@ module _ (n : Numbers) (S L : List ℕ) (o : Rest) (len : ℕ) where
   growing-filled : growing (n .slots) (bare n) len ≡ growing (n .slots) (filled n S L o) len
   unfolding growing growingHere keepsIn stays clearable resets
   growing-filled = refl
-
--- the reservation is read off the numbers
-reservation-filled : (q : Numbers) (S L : List ℕ) (o : Rest) → reservation (bare q) ≡ reservation (filled q S L o)
-reservation-filled q S L o = ap (λ (f : Place). at (f .memory) (f .start + f .length) (q .reserved)) (frame-filled q S L o (q .mode))
 
 pub worded-bare : (n : Numbers) (S L : List ℕ) → Worded (plain n S L) → Worded (bare n)
 worded-bare n S L W = record { most = W .most; word = W .word }
@@ -291,8 +286,8 @@ module _ (n : Numbers) (S L : List ℕ) (m : Memories) (k : ℕ) (e : k ≡ caus
       is : place (n .slots) (plain n S L) len ≡ whole
       is = place-is n S L (orderly-placeable (plain n S L) orderly) s f len d D fits
 
-      pub carried-inside : allInside (length (m .pool)) (length (m .overflow)) (allMoves n s d) ≡ true
-      carried-inside =
+      pub all-made-inside : allInside (length (m .pool)) (length (m .overflow)) (allMoves n s d) ≡ true
+      all-made-inside =
           rw (through-pool (plain n S L) m k e z, through-overflow (plain n S L) m k e z)
           (subst (λ (x : Decision). allInside (n .capacity) (n .overflow) (x .moves) ≡ true) is (moves-inside (n .slots) (plain n S L) orderly len fits))
 
@@ -308,7 +303,7 @@ module _ (n : Numbers) (S L : List ℕ) (m : Memories) (k : ℕ) (e : k ≡ caus
     p = filled n S L o
 
     cause-is : k ≡ cause (n .slots) p m
-    cause-is = e ∙ sym (cause-rest (n .slots) n S L o W m)
+    cause-is = filled-cause n S L m k e o W
 
     pub reserve-turned : (k ≡ 0 → ⊥) → r ≡ unreserved n k → Reserves p m (reserve (n .slots) p m len) r
     unfolding reserve

@@ -118,9 +118,9 @@ module _ (g : Route) (changes : ℕ) (n : Numbers) (R : Reaches g changes n) (s 
 -- by the Bool that says whether there is nothing to move
 module _ (pool : List ℕ) (s l t : ℕ) (unmoved : Bool) (is : unmoved ≡ (eqb l 0 || eqb s t)) where
   -- a move that is none leaves every byte
-  pub slides-nowhere : unmoved ≡ true → pool ≡ moved pool s l t
+  pub moves-nothing : unmoved ≡ true → pool ≡ moved pool s l t
   unfolding perform
-  slides-nowhere e = ap (λ (m : Memories). m .pool) (rw (sym is ∙ e) at (perform-within (memories pool []) s l t))
+  moves-nothing e = ap (λ (m : Memories). m .pool) (rw (sym is ∙ e) at (perform-within (memories pool []) s l t))
 
   -- and another lies in the pool
   module _ (o : ℕ) (h : allInside (length pool) o (within s l t) ≡ true) (n : unmoved ≡ false) where
@@ -128,32 +128,32 @@ module _ (pool : List ℕ) (s l t : ℕ) (unmoved : Bool) (is : unmoved ≡ (eqb
     unfolding allInside
     noted = both-true (inside (length pool) o (Within s l t)) true (rw (sym is ∙ n) at h) .0
 
-    pub slides-from : s + l ≤ length pool
+    pub moves-from : s + l ≤ length pool
     unfolding inside
-    slides-from = leb-true (s + l) (length pool) (both-true (leb (s + l) (length pool)) _ noted .0)
+    moves-from = leb-true (s + l) (length pool) (both-true (leb (s + l) (length pool)) _ noted .0)
 
-    pub slides-to : t + l ≤ length pool
+    pub moves-to : t + l ≤ length pool
     unfolding inside
-    slides-to = leb-true (t + l) (length pool) (both-true (leb (s + l) (length pool)) _ noted .1)
+    moves-to = leb-true (t + l) (length pool) (both-true (leb (s + l) (length pool)) _ noted .1)
 
-pub takes-out : (pool overflow after : List ℕ) (start len : ℕ) → after ≡ copied pool start len overflow 0
+pub copies-out : (pool overflow after : List ℕ) (start len : ℕ) → after ≡ copied pool start len overflow 0
     → memories pool after ≡ act (memories pool overflow) (Out start len)
 unfolding act
-takes-out pool overflow after start len e = rw e refl
+copies-out pool overflow after start len e = rw e refl
 
 pub still-inside : (c c′ s l t : ℕ) → c′ ≡ c → allInside c 0 (within s l t) ≡ true → allInside c′ 0 (within s l t) ≡ true
 still-inside c c′ s l t e h = rw e h
 
-pub slides-twice : (pool one two : List ℕ) (s l v t : ℕ) → one ≡ moved pool s l v → two ≡ moved one v l t → two ≡ moved (moved pool s l v) v l t
-slides-twice pool one two s l v t a b = b ∙ ap (λ (x : List ℕ). moved x v l t) a
+pub moves-twice : (pool one two : List ℕ) (s l v t : ℕ) → one ≡ moved pool s l v → two ≡ moved one v l t → two ≡ moved (moved pool s l v) v l t
+moves-twice pool one two s l v t a b = b ∙ ap (λ (x : List ℕ). moved x v l t) a
 
 -- where a list of moves lies in the memories, so does each part of it
-pub inside-append : (c o : ℕ) (a b : List Move) → allInside c o (a ++ b) ≡ true → (allInside c o a ≡ true) × (allInside c o b ≡ true)
+pub inside-parts : (c o : ℕ) (a b : List Move) → allInside c o (a ++ b) ≡ true → (allInside c o a ≡ true) × (allInside c o b ≡ true)
 unfolding allInside
-inside-append c o [] b h = (refl, h)
-inside-append c o (x ∷ a) b h =
+inside-parts c o [] b h = (refl, h)
+inside-parts c o (x ∷ a) b h =
     let y = both-true (inside c o x) _ h in
-    let z = inside-append c o a b (y .1) in
+    let z = inside-parts c o a b (y .1) in
     (both (y .0) (z .0), z .1)
 
 -- a move within the pool has no place in the overflow
@@ -172,30 +172,30 @@ module _ (g : Route) (c o : ℕ) (h : allInside c o (routeMoves g) ≡ true) whe
   one : Tail (within (g .start) (g .size) (g .first))
       × Tail (within (g .first) (g .size) (g .second) ++ (within (g .second) (g .size) (g .third) ++ (within (g .third) (g .size) (g .fourth) ++ pick (g .out) (Out (g .fourth) (g .size) ∷ []) [])))
   unfolding routeMoves
-  one = inside-append c o (within (g .start) (g .size) (g .first)) _ h
+  one = inside-parts c o (within (g .start) (g .size) (g .first)) _ h
 
   two : Tail (within (g .first) (g .size) (g .second))
       × Tail (within (g .second) (g .size) (g .third) ++ (within (g .third) (g .size) (g .fourth) ++ pick (g .out) (Out (g .fourth) (g .size) ∷ []) []))
-  two = inside-append c o (within (g .first) (g .size) (g .second)) _ (one .1)
+  two = inside-parts c o (within (g .first) (g .size) (g .second)) _ (one .1)
 
   three : Tail (within (g .second) (g .size) (g .third)) × Tail (within (g .third) (g .size) (g .fourth) ++ pick (g .out) (Out (g .fourth) (g .size) ∷ []) [])
-  three = inside-append c o (within (g .second) (g .size) (g .third)) _ (two .1)
+  three = inside-parts c o (within (g .second) (g .size) (g .third)) _ (two .1)
 
   four : Tail (within (g .third) (g .size) (g .fourth)) × Tail (pick (g .out) (Out (g .fourth) (g .size) ∷ []) [])
-  four = inside-append c o (within (g .third) (g .size) (g .fourth)) _ (three .1)
+  four = inside-parts c o (within (g .third) (g .size) (g .fourth)) _ (three .1)
 
   module _ (c′ : ℕ) (e : c′ ≡ c) where
-    pub leg-one : allInside c′ 0 (within (g .start) (g .size) (g .first)) ≡ true
-    leg-one = rw e (within-pool c o (g .start) (g .size) (g .first) (one .0))
+    pub first-inside : allInside c′ 0 (within (g .start) (g .size) (g .first)) ≡ true
+    first-inside = rw e (within-pool c o (g .start) (g .size) (g .first) (one .0))
 
-    pub leg-two : allInside c′ 0 (within (g .first) (g .size) (g .second)) ≡ true
-    leg-two = rw e (within-pool c o (g .first) (g .size) (g .second) (two .0))
+    pub second-inside : allInside c′ 0 (within (g .first) (g .size) (g .second)) ≡ true
+    second-inside = rw e (within-pool c o (g .first) (g .size) (g .second) (two .0))
 
-    pub leg-three : allInside c′ 0 (within (g .second) (g .size) (g .third)) ≡ true
-    leg-three = rw e (within-pool c o (g .second) (g .size) (g .third) (three .0))
+    pub third-inside : allInside c′ 0 (within (g .second) (g .size) (g .third)) ≡ true
+    third-inside = rw e (within-pool c o (g .second) (g .size) (g .third) (three .0))
 
-    pub leg-four : allInside c′ 0 (within (g .third) (g .size) (g .fourth)) ≡ true
-    leg-four = rw e (within-pool c o (g .third) (g .size) (g .fourth) (four .0))
+    pub fourth-inside : allInside c′ 0 (within (g .third) (g .size) (g .fourth)) ≡ true
+    fourth-inside = rw e (within-pool c o (g .third) (g .size) (g .fourth) (four .0))
 
     out-inside : g .out ≡ true → inside c o (Out (g .fourth) (g .size)) ≡ true
     unfolding allInside
@@ -230,11 +230,11 @@ module _ (g : Route) (pool overflow two four : List ℕ) (b : two ≡ moved (mov
         ← d,
       ) refl
 
-  pub travels-in : g .out ≡ false → memories four overflow ≡ perform (routeMoves g) (memories pool overflow)
+  pub made-in : g .out ≡ false → memories four overflow ≡ perform (routeMoves g) (memories pool overflow)
   unfolding routeMoves perform
-  travels-in t = sym (placed-on (pick (g .out) (Out (g .fourth) (g .size) ∷ []) []) ∙ rw t refl)
+  made-in t = sym (placed-on (pick (g .out) (Out (g .fourth) (g .size) ∷ []) []) ∙ rw t refl)
 
-  pub travels-out : g .out ≡ true → (after : List ℕ) → memories four after ≡ act (memories four overflow) (Out (g .fourth) (g .size))
+  pub made-out : g .out ≡ true → (after : List ℕ) → memories four after ≡ act (memories four overflow) (Out (g .fourth) (g .size))
       → memories four after ≡ perform (routeMoves g) (memories pool overflow)
   unfolding routeMoves perform
-  travels-out t after e = e ∙ sym (placed-on (pick (g .out) (Out (g .fourth) (g .size) ∷ []) []) ∙ rw t refl)
+  made-out t after e = e ∙ sym (placed-on (pick (g .out) (Out (g .fourth) (g .size) ∷ []) []) ∙ rw t refl)

@@ -14,10 +14,10 @@ use borrow.Author.Tests.{lt-ltb, lt-leb, le-leb}
 use Rattle.laws.specs.Live.{bit, liveAt, lastLive}
 use Rattle.laws.proofs.Bits.{bit-shr}
 use Rattle.laws.proofs.Tests.{no-true, not-true, not-false}
-use Rattle.laws.proofs.Slots.{last-above, last-most}
 use Rattle.laws.proofs.Words.{up-within, up-none, up-free, up-live, up-on}
 use Rattle.buffer_pool.specs.declared.sound.RunEnd.{RunEnd}
 use Rattle.buffer_pool.specs.SlotPass.{ordered, bitsAfter, Passed, Runs}
+use Rattle.buffer_pool.proofs.Order.{last-held}
 
 -- where no slot of those left is live, they are in order if the last end is
 pub none-left : (w : ℕ) (starts lengths : List ℕ) (live to k i end : ℕ) → ((p : ℕ) → i < p → p ≤ i + k → liveAt w live p ≡ false)
@@ -28,23 +28,30 @@ none-left w starts lengths live to (suc k) i end f =
     rw (f (suc i) (omega arith) (omega arith)) (none-left w starts lengths live to k (suc i) end (λ p l m. f p (omega arith) (omega arith)))
 
 -- so the slots after the last live one of those up to b need not be passed
-pub ordered-last : (w : ℕ) (starts lengths : List ℕ) (live to b k i end : ℕ) → i + k ≡ b
-    → ordered w starts lengths live k i end to ≡ ordered w starts lengths live (lastLive w live b - i) i end to
-unfolding ordered
-ordered-last w starts lengths live to b zero i end e =
-    ap (λ (x : ℕ). ordered w starts lengths live x i end to) {x = 0} {y = lastLive w live b - i} (omega (arith, last-most w live b))
-ordered-last w starts lengths live to b (suc k) i end e =
-    go (decLt i (lastLive w live b)) (λ end. ordered-last w starts lengths live to b k (suc i) end (omega arith))
-  where
-    go : Dec (i < lastLive w live b)
-        → ((end : ℕ) → ordered w starts lengths live k (suc i) end to ≡ ordered w starts lengths live (lastLive w live b - suc i) (suc i) end to)
-        → ordered w starts lengths live (suc k) i end to ≡ ordered w starts lengths live (lastLive w live b - i) i end to
-    go (no a) rest =
-        none-left w starts lengths live to (suc k) i end (λ p l m. last-above w live b p (omega (arith, a)) (omega arith))
-        ∙ ap (λ (x : ℕ). ordered w starts lengths live x i end to) {x = 0} {y = lastLive w live b - i} (omega (arith, a))
-    go (yes a) rest =
-        rw (rest end, rest (getD starts i 0 + getD lengths i 0))
-        (ap (λ (x : ℕ). ordered w starts lengths live x i end to) {x = suc (lastLive w live b - suc i)} {y = lastLive w live b - i} (omega (arith, a)))
+module _ (w : ℕ) (starts lengths : List ℕ) (live to b : ℕ) (m : b ≤ w) where
+  free-above : (p : ℕ) → lastLive w live b < p → p ≤ b → liveAt w live p ≡ false
+  free-above p l h = go (liveAt w live p) refl
+    where
+      go : (x : Bool) → liveAt w live p ≡ x → liveAt w live p ≡ false
+      go true e = absurd (omega (arith, last-held w live b m .top p h (record { one = omega arith; most = omega arith; here = e })))
+      go false e = e
+
+  pub ordered-last : (k i end : ℕ) → i + k ≡ b
+      → ordered w starts lengths live k i end to ≡ ordered w starts lengths live (lastLive w live b - i) i end to
+  unfolding ordered
+  ordered-last zero i end e =
+      ap (λ (x : ℕ). ordered w starts lengths live x i end to) {x = 0} {y = lastLive w live b - i} (omega (arith, last-held w live b m .within))
+  ordered-last (suc k) i end e = go (decLt i (lastLive w live b)) (λ end. ordered-last k (suc i) end (omega arith))
+    where
+      go : Dec (i < lastLive w live b)
+          → ((end : ℕ) → ordered w starts lengths live k (suc i) end to ≡ ordered w starts lengths live (lastLive w live b - suc i) (suc i) end to)
+          → ordered w starts lengths live (suc k) i end to ≡ ordered w starts lengths live (lastLive w live b - i) i end to
+      go (no a) rest =
+          none-left w starts lengths live to (suc k) i end (λ p l h. free-above p (omega (arith, a)) (omega arith))
+          ∙ ap (λ (x : ℕ). ordered w starts lengths live x i end to) {x = 0} {y = lastLive w live b - i} (omega (arith, a))
+      go (yes a) rest =
+          rw (rest end, rest (getD starts i 0 + getD lengths i 0))
+          (ap (λ (x : ℕ). ordered w starts lengths live x i end to) {x = suc (lastLive w live b - suc i)} {y = lastLive w live b - i} (omega (arith, a)))
 
 -- the slots up to b alone, by their bits shifted down
 pub ordered-front : (w : ℕ) (starts lengths : List ℕ) (live to b k i end : ℕ) → b ≤ w → i + k ≤ b

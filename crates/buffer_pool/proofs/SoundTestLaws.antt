@@ -3,7 +3,7 @@ use mathlib.Core.Path.{_≡_, refl, sym, ap, _∙_}
 use mathlib.Core.Bool.{Bool, true, false, not, _&&_}
 use mathlib.Core.List.{List}
 use Prim.Native.Nat.{ℕ, _^_, _+_, _-_, _/_, _≤_, _<_}
-use native.Mathlib.Nat.{add-zero}
+use native.Mathlib.Nat.{add-zero, le-refl}
 use native.Mathlib.Omega.{arith}
 use lib.Count.{trailingZeros}
 use lib.Dec.{leb, ltb, eqb}
@@ -198,7 +198,7 @@ module _ (n : Numbers) (starts lengths : List ℕ) (f : PoolFront) where
             let all : f .«back_start» - 0 ≡ f .«back_start» = omega arith in
             let some : lastLive (n .slots) (n .live) (f .«back_start») - 0 ≡ own = omega (arith, d) in
             q ∙ rw (g, all) (ordered-front (n .slots) starts lengths (n .live) (n .«raw_offset») (f .«back_start») (f .«back_start») 0 0 m (omega arith))
-            ∙ ordered-last (n .slots) starts lengths (n .live) (n .«raw_offset») (f .«back_start») (f .«back_start») 0 0 (omega arith)
+            ∙ ordered-last (n .slots) starts lengths (n .live) (n .«raw_offset») (f .«back_start») m (f .«back_start») 0 0 (omega arith)
             ∙ rw (some, eq-eqb (n .cursor) 0 z, le-leb (f .«byte_capacity») (n .capacity) b, ← e, not-false t h, ← d, le-leb own (f .len) k)
 
 -- ---- The second part
@@ -280,7 +280,7 @@ module _ (n : Numbers) (starts lengths : List ℕ) (b : Bool) (e : b ≡ bytesSo
         → t ≡ ordered (n .slots) starts lengths (n .live) (n .slots - r .first) (r .first) (r .from) (r .to) → t ≡ slotsSound n starts lengths
     unfolding slotsSound orderedIn
     slots-decide k r i f t q =
-        q ∙ ordered-last (n .slots) starts lengths (n .live) (r .to) (n .slots) (n .slots - r .first) (r .first) (r .from) (omega (arith, span-first n r i f))
+        q ∙ ordered-last (n .slots) starts lengths (n .live) (r .to) (n .slots) (le-refl (n .slots)) (n .slots - r .first) (r .first) (r .from) (omega (arith, span-first n r i f))
         ∙ rw (i, ← e, not-false b h, last-is, le-leb last (n .«back_start» + n .«back_len») k)
 
 -- ---- The three together

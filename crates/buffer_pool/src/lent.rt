@@ -39,8 +39,8 @@ use crate::placing::begin;
 use crate::placing::fast_path;
 use crate::placing::place;
 use crate::refusals;
-use crate::route::slide;
-use crate::route::travel;
+use crate::route::make_moves;
+use crate::route::move_raw_at_offset;
 use crate::slice::Handle;
 use crate::slice::claim;
 use crate::slice::release;
@@ -174,7 +174,7 @@ fn split_off(overflow: &mut [u8], to: &mut [u8], n: u64, kept: u64)
 }
 
 // The moves of a reset.
-fn restart(pool: &mut [u8], overflow: &mut [u8], n: Numbers, start: Start)
+fn make_reset_moves(pool: &mut [u8], overflow: &mut [u8], n: Numbers, start: Start)
     requires { ⌜ (allInside (length (now pool)) (length (now overflow)) (deciding.startMoves n start) ≡ true) × (start .brought ≡ true → n .cursor ≤ n .kept) ⌝ }
     ensures { λ _. ⌜ memories (now (pool .exit)) (now (overflow .exit)) ≡ perform (deciding.startMoves n start) (memories (now (pool .entry)) (now (overflow .entry))) ⌝ }
 {
@@ -183,7 +183,7 @@ fn restart(pool: &mut [u8], overflow: &mut [u8], n: Numbers, start: Start)
         return;
     }
     let m = start.numbers;
-    slide(pool, n.raw_offset, n.raw_len, m.raw_offset);
+    move_raw_at_offset(pool, n.raw_offset, n.raw_len, m.raw_offset);
 }
 
 // The overflow grows from `start` up to `end`, if that is more.
@@ -198,12 +198,12 @@ fn grow_to(overflow: &mut [u8], start: u64, end: u64)
 }
 
 // The moves of a reserve.
-fn carry(pool: &mut [u8], overflow: &mut [u8], n: Numbers, start: Start, d: Decided)
+fn make_all_moves(pool: &mut [u8], overflow: &mut [u8], n: Numbers, start: Start, d: Decided)
     requires { ⌜ (allInside (length (now pool)) (length (now overflow)) (deciding.allMoves n start d) ≡ true) × (start .brought ≡ true → n .cursor ≤ n .kept) ⌝ }
     ensures { λ _. ⌜ memories (now (pool .exit)) (now (overflow .exit)) ≡ perform (deciding.allMoves n start d) (memories (now (pool .entry)) (now (overflow .entry))) ⌝ }
 {
-    restart(pool, overflow, n, start);
-    travel(pool, overflow, d.route);
+    make_reset_moves(pool, overflow, n, start);
+    make_moves(pool, overflow, d.route);
     let m = d.numbers;
     grow_to(overflow, d.kept, m.kept);
 }
@@ -225,7 +225,7 @@ fn place_anew<'a>(
     if d.too_long {
         return unreserved(n, refusals::OVERFLOW_TOO_SHORT);
     }
-    carry(pool, overflow, n, start, d);
+    make_all_moves(pool, overflow, n, start, d);
     reserved(d.numbers, d.changes, start.clears)
 }
 

@@ -3,7 +3,7 @@
 ghost use mathlib.Core.Path.{_≡_};
 ghost use mathlib.Core.Bool.{true, false, _&&_};
 ghost use Prim.Native.Nat.{_+_, _≤_, _<_};
-ghost use lib.Dec.{leb, ltb, eqb};
+ghost use lib.Dec.{ltb, eqb};
 ghost use Rattle.buffer_pool.specs.declared.buffer_pool.PoolMode.the-variants.{Back, Alloc};
 ghost use Rattle.buffer_pool.specs.Numbers.{plain, bare};
 ghost use Rattle.buffer_pool.specs.Placing as spec;

@@ -88,8 +88,8 @@ fn is_unmoved(start: u64, len: u64, to: u64) -> bool
     start == to
 }
 
-// The move of a frame within the pool, if it is one.
-pub(crate) fn slide(pool: &mut [u8], start: u64, len: u64, to: u64)
+// The move of a frame within the pool, if it is one: `InnerMemory::move_raw_at_offset`.
+pub(crate) fn move_raw_at_offset(pool: &mut [u8], start: u64, len: u64, to: u64)
     requires { ⌜ spec.allInside (length (now pool)) 0 (spec.within start len to) ≡ true ⌝ }
     ensures { λ _. ⌜ now (pool .exit) ≡ moved (now (pool .entry)) start len to ⌝ }
 {
@@ -100,32 +100,32 @@ pub(crate) fn slide(pool: &mut [u8], start: u64, len: u64, to: u64)
 }
 
 // Two such moves, by `via` to `to`.
-fn slide_by(pool: &mut [u8], start: u64, len: u64, via: u64, to: u64)
+fn move_raw_by(pool: &mut [u8], start: u64, len: u64, via: u64, to: u64)
     requires { ⌜ (spec.allInside (length (now pool)) 0 (spec.within start len via) ≡ true) × (spec.allInside (length (now pool)) 0 (spec.within via len to) ≡ true) ⌝ }
     ensures { λ _. ⌜ now (pool .exit) ≡ moved (moved (now (pool .entry)) start len via) via len to ⌝ }
 {
-    slide(pool, start, len, via);
-    slide(pool, via, len, to);
+    move_raw_at_offset(pool, start, len, via);
+    move_raw_at_offset(pool, via, len, to);
 }
 
-// The move of a frame out to the overflow's start.
-fn take_out(pool: &[u8], overflow: &mut [u8], start: u64, len: u64)
+// The move of a frame out to the overflow's start: `InnerMemory::copy_into_buffer`.
+fn copy_into_buffer(pool: &[u8], overflow: &mut [u8], start: u64, len: u64)
     requires { ⌜ (start + len ≤ length (now pool)) × (0 + len ≤ length (now overflow)) ⌝ }
     ensures { λ _. ⌜ spec.memories (now (pool .entry)) (now (overflow .exit)) ≡ spec.act (spec.memories (now (pool .entry)) (now (overflow .entry))) (spec.Out start len) ⌝ }
 {
     copy_between(pool, start as usize, len as usize, overflow, 0);
 }
 
-// A frame moved on its way.
-pub(crate) fn travel(pool: &mut [u8], overflow: &mut [u8], route: Route)
+// The moves of a way.
+pub(crate) fn make_moves(pool: &mut [u8], overflow: &mut [u8], route: Route)
     requires { ⌜ spec.allInside (length (now pool)) (length (now overflow)) (routeMoves route) ≡ true ⌝ }
     ensures { λ _. ⌜ spec.memories (now (pool .exit)) (now (overflow .exit)) ≡ spec.perform (routeMoves route) (spec.memories (now (pool .entry)) (now (overflow .entry))) ⌝ }
 {
     let size = route.size;
     let last = route.fourth;
-    slide_by(pool, route.start, size, route.first, route.second);
-    slide_by(pool, route.second, size, route.third, last);
+    move_raw_by(pool, route.start, size, route.first, route.second);
+    move_raw_by(pool, route.second, size, route.third, last);
     if route.out {
-        take_out(pool, overflow, last, size);
+        copy_into_buffer(pool, overflow, last, size);
     }
 }

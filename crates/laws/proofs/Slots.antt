@@ -224,27 +224,6 @@ last-none w live (suc b) f =
     ap (λ (x : Bool). pick x (suc b) (lastLive w live b)) (f (suc b) (omega arith) (le-refl (suc b)))
     ∙ last-none w live b (λ q l m. f q l (le-trans m (le-suc b)))
 
--- it is one of them, and no slot of those up to b is live after it
-pub last-most : (w live b : ℕ) → lastLive w live b ≤ b
-unfolding lastLive
-last-most w live zero = le-refl zero
-last-most w live (suc b) = go (liveAt w live (suc b)) (last-most w live b)
-  where
-    go : (x : Bool) → lastLive w live b ≤ b → pick x (suc b) (lastLive w live b) ≤ suc b
-    go true l = le-refl (suc b)
-    go false l = le-trans l (le-suc b)
-
-pub last-above : (w live b p : ℕ) → lastLive w live b < p → p ≤ b → liveAt w live p ≡ false
-unfolding lastLive
-last-above w live zero p l m = absurd (omega arith)
-last-above w live (suc b) p l m = go (liveAt w live (suc b)) refl l (last-above w live b p) (eq-or-lt-of-le m)
-  where
-    go : (x : Bool) → liveAt w live (suc b) ≡ x → pick x (suc b) (lastLive w live b) < p
-        → (lastLive w live b < p → p ≤ b → liveAt w live p ≡ false) → (p ≡ suc b) ⊎ (p < suc b) → liveAt w live p ≡ false
-    go true e k rest t = absurd (omega arith)
-    go false e k rest (inl d) = ap (liveAt w live) d ∙ e
-    go false e k rest (inr d) = rest k (le-of-suc-le-suc d)
-
 -- the last live slot of those up to b, from the zeros below the word shifted down, whether or not there is one
 pub last-zeros : (w live b : ℕ) → b ≤ w → live < 2 ^ w → lastLive w live b ≡ b - trailingZeros w (live / 2 ^ (w - b))
 last-zeros w live b hb h = go (eq-zero-or-pos (live / 2 ^ (w - b)))

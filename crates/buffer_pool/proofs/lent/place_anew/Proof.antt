@@ -1,5 +1,5 @@
 -- `lent::place_anew` meets its contract. Assumes nothing.
-use Rattle.buffer_pool.proofs.ReserveLaws.{passed-cursor, passed-start, passed-brought, carried-inside, placed-sum, reserve-short, reserve-done}
+use Rattle.buffer_pool.proofs.ReserveLaws.{passed-cursor, passed-start, passed-brought, all-made-inside, placed-sum, reserve-short, reserve-done}
 use mathlib.Core.Path.{refl}
 use denote.Ref.{now}
 use Rattle.buffer_pool.specs.Moves.{memories}
@@ -19,12 +19,12 @@ unreserved-requires c κs = search needs
 returns : tie.Need-returns
 returns c = λ o W. search reserve-short
 
-carry-requires : tie.Need-carry-requires
-carry-requires c κs =
+make-all-moves-requires : tie.Need-make-all-moves-requires
+make-all-moves-requires c κs =
     let a = c .before .before .before .before .before .before .before .args in
     let s = c .before .before .before .before .begin in
     let d = c .before .before .before .place in (
-      carried-inside (a .n) (now (a .starts)) (now (a .lengths)) (memories (now (a .pool)) (now (a .overflow))) 0 (c .before .before .before .before .before .before .before .pre) refl (a .len) (s .result)
+      all-made-inside (a .n) (now (a .starts)) (now (a .lengths)) (memories (now (a .pool)) (now (a .overflow))) 0 (c .before .before .before .before .before .before .before .pre) refl (a .len) (s .result)
           (s .ensures) (d .result) (d .ensures) (search needs),
       search (passed-brought, needs),
     )
@@ -49,7 +49,7 @@ place-anew-spec =
     place-requires
     unreserved-requires
     returns
-    carry-requires
+    make-all-moves-requires
     reserved-requires
     same-length
     same-length-2

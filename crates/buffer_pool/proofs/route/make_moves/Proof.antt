@@ -1,20 +1,20 @@
--- `route::travel` meets its contract. Assumes nothing.
-use Rattle.buffer_pool.proofs.RouteLaws.{leg-one, leg-two, leg-three, leg-four, leaves-from, leaves-to, travels-in, travels-out}
+-- `route::make_moves` meets its contract. Assumes nothing.
+use Rattle.buffer_pool.proofs.RouteLaws.{first-inside, second-inside, third-inside, fourth-inside, leaves-from, leaves-to, made-in, made-out}
 use mathlib.Core.Path.{refl}
 use denote.Ref.{now}
 use lib.ListN.{length}
 use borrow.Author.Needs.{needs}
-use Rattle.buffer_pool.proofs.route.travel.Statement.{statement}
-use Rattle.buffer_pool.proofs.route.travel.Tie as tie
+use Rattle.buffer_pool.proofs.route.make_moves.Statement.{statement}
+use Rattle.buffer_pool.proofs.route.make_moves.Tie as tie
 
-slide-by-requires : tie.Need-slide-by-requires
-slide-by-requires c κs = (search (leg-one, needs), search (leg-two, needs))
+move-raw-by-requires : tie.Need-move-raw-by-requires
+move-raw-by-requires c κs = (search (first-inside, needs), search (second-inside, needs))
 
-slide-by-requires-2 : tie.Need-slide-by-requires-2
-slide-by-requires-2 c κs = (search (leg-three, needs), search (leg-four, needs))
+move-raw-by-requires-2 : tie.Need-move-raw-by-requires-2
+move-raw-by-requires-2 c κs = (search (third-inside, needs), search (fourth-inside, needs))
 
-take-out-requires : tie.Need-take-out-requires
-take-out-requires c κs =
+copy-into-buffer-requires : tie.Need-copy-into-buffer-requires
+copy-into-buffer-requires c κs =
     let a = c .before .before .before .before .before .before .before .before .before .before .before .before .before .args in
     let inside = c .before .before .before .before .before .before .before .before .before .before .before .before .before .pre in (
       leaves-from (a .route) (length (now (a .pool))) (length (now (a .overflow))) inside _ (search needs) (search needs),
@@ -28,21 +28,21 @@ same-length-2 : tie.Need-same-length-2
 same-length-2 c = search needs
 
 returns : tie.Need-returns
-returns c = search travels-out
+returns c = search made-out
 
 same-length-3 : tie.Need-same-length-3
 same-length-3 c = search needs
 
 returns-2 : tie.Need-returns-2
-returns-2 c = search travels-in
+returns-2 c = search made-in
 
-pub travel-spec : {M : Type 1} → statement M
-travel-spec =
+pub make-moves-spec : {M : Type 1} → statement M
+make-moves-spec =
     tie.close
     (tie.spec
-    slide-by-requires
-    slide-by-requires-2
-    take-out-requires
+    move-raw-by-requires
+    move-raw-by-requires-2
+    copy-into-buffer-requires
     same-length
     same-length-2
     returns
