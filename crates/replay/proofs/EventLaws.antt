@@ -2,7 +2,7 @@
 use mathlib.Core.Path.{_≡_, refl, sym, ap, _∙_}
 use mathlib.Core.Bool.{Bool, true, false, not}
 use mathlib.Core.List.{List, []}
-use Prim.Native.Nat.{ℕ, _+_, _-_, _*_, _/_, _≤_, _<_, min}
+use Prim.Native.Nat.{ℕ, _+_, _-_, _≤_, _<_, min}
 use native.Mathlib.Omega.{arith}
 use borrow.Author.Tests.{eq-eqb, ne-eqb, lt-leb, le-leb}
 use lib.ListN.{length, take, drop}
@@ -29,7 +29,7 @@ use Rattle.replay.specs.declared.event.Shown.{Shown}
 use Rattle.replay.specs.declared.event.Step.{Step}
 use Rattle.replay.specs.Text.{output, wrote}
 use Rattle.replay.specs.Slots.{handleOf}
-use Rattle.replay.specs.Run.{counted, percent, kindLetter, modeLetter, extent, takeExtent, releaseExtent, extentOf, inPool, starts, startsOf, shownOf, fills, filling, filled, callOf, running, stepped, stepOf, step}
+use Rattle.replay.specs.Run.{counted, kindLetter, modeLetter, extent, takeExtent, releaseExtent, extentOf, inPool, starts, startsOf, shownOf, fills, filling, filled, callOf, running, stepped, stepOf, step}
 use Rattle.replay.proofs.TextLaws.{sets-past}
 
 -- ---- Counting
@@ -43,14 +43,6 @@ module _ (t : Tally) (a : Answer) (number : ℕ) (x : number ≡ values a .numbe
       ≡ counted t (values a)
   unfolding counted
   counted-as either nay take spill e n k s = rw (n, k, e, s, x, y, z) refl
-
-pub percent-none : (t : Tally) → t .takes ≡ 0 → 0 ≡ percent t
-unfolding percent
-percent-none t z = rw (eq-eqb (t .takes) 0 z) refl
-
-pub percent-some : (t : Tally) → (t .takes ≡ 0 → ⊥) → t .spilled * 100 / t .takes ≡ percent t
-unfolding percent
-percent-some t n = rw (ne-eqb (t .takes) 0 n) refl
 
 -- ---- What a line shows
 

@@ -3,10 +3,13 @@ pub mod TextLaws
 pub mod Size
 pub mod SlotLaws
 pub mod EventLaws
+pub mod PercentLaws
 pub mod LineLaws
 pub mod Kept
 pub mod ShownSmall
 pub mod WalkLaws
 pub mod ListingLaws
+pub mod Nearest
+pub mod Percentage
 pub mod ListingLength
 pub mod Cases

@@ -8,7 +8,7 @@ use Rattle.replay.specs.declared.event.Tally.{Tally}
 use Rattle.replay.specs.declared.event.Shown.{Shown}
 use Rattle.replay.specs.Text.{decimal, hex, signed, spaced, newline, Output, wrote}
 use Rattle.replay.specs.Slots.{held}
-use Rattle.replay.specs.Run.{percent}
+use Rattle.replay.specs.Percentage.{percent}
 use Rattle.replay.specs.Listing.{firstLine, moveOf, lineHead, line, lastLine, refusedWith, refusedNine, refusedTen}
 use Rattle.replay.proofs.TextLaws.{after}
 
@@ -38,7 +38,7 @@ unfolding line
 whole-line o p q r s t event l m x y z u v w =
     five o p q r _ _ _ x y z s t _ _ (v ∙ ap (λ (n : ℤ). wrote r (spaced (signed n))) u) w
 
-pub last-line : (o p q r s t u : Output) (n : Tally) (k : BufferPool) (g h : ℕ) → g ≡ percent n → h ≡ held k → p ≡ wrote o (84 ∷ [])
+pub last-line : (o p q r s t u : Output) (n : Tally) (k : BufferPool) (g h : ℕ) → g ≡ percent (n .spilled) (n .takes) → h ≡ held k → p ≡ wrote o (84 ∷ [])
     → q ≡ wrote p (spaced (decimal (n .done))) → r ≡ wrote q (spaced (decimal (n .refused))) → s ≡ wrote r (spaced (decimal g))
     → t ≡ wrote s (spaced (decimal h)) → u ≡ wrote t newline → u ≡ wrote o (lastLine n k)
 unfolding lastLine

@@ -6,7 +6,7 @@ use mathlib.Core.Bool.{Bool, true, false, _||_}
 use mathlib.Core.Logic.{_⊎_, inl, inr}
 use mathlib.Core.List.{List}
 use Prim.Native.Nat.{ℕ, zero, suc, _+_, _-_, _≤_, _<_, min}
-use native.Mathlib.Nat.{le-refl, div-le-of-le-mul}
+use native.Mathlib.Nat.{le-refl}
 use native.Mathlib.Omega.{arith}
 use borrow.Author.Tests.{ne-eqb, lt-leb}
 use lib.Dec.{leb, ltb, eqb}
@@ -36,11 +36,10 @@ use Rattle.buffer_pool.proofs.SoundKept as kept
 use Rattle.buffer_pool.proofs.SoundKept.{step-sizes, sound-kept, sound-inside}
 use Rattle.trace.specs.declared.Event.{Event}
 use Rattle.trace.specs.Trace.{sizeLimit, takeKind, releaseKind, mostCaller}
-use Rattle.replay.specs.declared.event.Tally.{Tally}
 use Rattle.replay.specs.declared.event.Extent.{Extent}
 use Rattle.replay.specs.declared.event.Shown.{Shown}
 use Rattle.replay.specs.Slots.{slotOf, handleAt, handleOf, heldAt, heldFrom, held}
-use Rattle.replay.specs.Run.{percent, extent, takeExtent, releaseExtent, extentOf, shownOf, filling, filled, callOf, Running, stepOf, step}
+use Rattle.replay.specs.Run.{extent, takeExtent, releaseExtent, extentOf, shownOf, filling, filled, callOf, Running, stepOf, step}
 use Rattle.replay.proofs.SlotLaws.{slot-held}
 use Rattle.replay.proofs.Kept.{call-by-steps, new-sound, step-sound, Starting, starts-within}
 
@@ -266,10 +265,3 @@ pub held-within : (r : BufferPool) → Small r → held r ≤ sizeLimit
 unfolding held
 held-within r S =
     omega (arith, S .capacity-within, held-from r (sound-use (r .slots) r (S .is-sound) .orderly .ready .slots) (r .slots) 1 0 (omega arith) (omega arith) (omega arith) (λ q l K. omega arith))
-
--- ---- The percent
-
-pub percent-most : (t : Tally) → t .spilled ≤ t .takes → percent t ≤ 100
-unfolding percent
-percent-most t h =
-    pick-cases (λ (n : ℕ). n ≤ 100) (eqb (t .takes) 0) (λ z. omega arith) (λ z. div-le-of-le-mul (t .takes) (omega arith))

@@ -1,4 +1,5 @@
--- The listing of SPECIFICATION 12, and a trace of two callers with its listing, byte for byte. proofs/Cases.antt has the theorems.
+-- The listing of SPECIFICATION 12, a trace of two callers with its listing, byte for byte, and the percentages of 10.10.
+-- proofs/Cases.antt has the theorems.
 use mathlib.Core.List.{List, [], _∷_}
 use Prim.Native.Nat.{ℕ}
 use Rattle.buffer_pool.specs.Computing as pool
@@ -6,7 +7,8 @@ use Rattle.trace.specs.Cases as trace
 use Rattle.trace.specs.Content.{content, eventsFrom}
 use Rattle.replay.specs.Text.{places, decimal, hex, signed, spaced}
 use Rattle.replay.specs.Slots.{bears, slotFrom, slotOf, handleAt, handleOf, heldAt, heldFrom, held}
-use Rattle.replay.specs.Run.{counted, percent, kindLetter, takeExtent, releaseExtent, extentOf, startsOf, shownOf, fills, filling, filled, callOf, stepOf, step}
+use Rattle.replay.specs.Percentage.{evenNeighbour, nearest, percent}
+use Rattle.replay.specs.Run.{counted, kindLetter, takeExtent, releaseExtent, extentOf, startsOf, shownOf, fills, filling, filled, callOf, stepOf, step}
 use Rattle.replay.specs.Listing.{firstLine, moveOf, lineHead, line, lastLine, lines, begunOn, listingOn, listingOf, refusedNine, refusedTen, listingBy, listing}
 
 unfoldable pub printed : List ℕ
@@ -93,7 +95,38 @@ twoCallersPrinted =
     ∷ 84 ∷ 32 ∷ 56 ∷ 32 ∷ 50 ∷ 32 ∷ 48 ∷ 32 ∷ 48 ∷ 10
     ∷ []
 
+-- W-204, the table of SPECIFICATION 10.10: so many takes from the overflow, of so many takes, and what line T shows
+pub record PercentCase : Type 0 where
+  pub part : ℕ
+  pub all : ℕ
+  pub shown : ℕ
+
+abbrev pub shows : ℕ → ℕ → ℕ → PercentCase
+shows part all shown = record { part = part; all = all; shown = shown }
+
+unfoldable pub percentTable : List PercentCase
+percentTable =
+    -- an exact half
+    shows 1 8 12
+    ∷ shows 3 8 38
+    ∷ shows 1 200 0
+    ∷ shows 3 200 2
+    ∷ shows 199 200 100
+    -- below the half
+    ∷ shows 1 16 6
+    ∷ shows 1 3 33
+    -- above the half
+    ∷ shows 1 6 17
+    ∷ shows 1 13 8
+    -- whole numbers
+    ∷ shows 1 2 50
+    ∷ shows 0 3 0
+    ∷ shows 3 3 100
+    -- no takes
+    ∷ shows 0 0 0
+    ∷ []
+
 -- opens what a listing unfolds to, for computing
 unfoldable pub definitions : Unit {0}
-unfolding pool.definitions trace.definitions content eventsFrom places decimal hex signed spaced bears slotFrom slotOf handleAt handleOf heldAt heldFrom held counted percent kindLetter takeExtent releaseExtent extentOf startsOf shownOf fills filling filled callOf stepOf step firstLine moveOf lineHead line lastLine lines begunOn listingOn listingOf refusedNine refusedTen listingBy listing
+unfolding pool.definitions trace.definitions content eventsFrom places decimal hex signed spaced bears slotFrom slotOf handleAt handleOf heldAt heldFrom held evenNeighbour nearest percent counted kindLetter takeExtent releaseExtent extentOf startsOf shownOf fills filling filled callOf stepOf step firstLine moveOf lineHead line lastLine lines begunOn listingOn listingOf refusedNine refusedTen listingBy listing
 definitions = tt

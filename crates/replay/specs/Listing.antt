@@ -21,7 +21,8 @@ use Rattle.replay.specs.declared.Answer.{Answer}
 use Rattle.replay.specs.declared.Answer.the-variants.{Listed, TooShort}
 use Rattle.replay.specs.Text.{decimal, hex, signed, spaced, newline}
 use Rattle.replay.specs.Slots.{held}
-use Rattle.replay.specs.Run.{percent, Running, running, left, step}
+use Rattle.replay.specs.Percentage.{percent}
+use Rattle.replay.specs.Run.{Running, running, left, step}
 
 -- ---- The lines
 
@@ -46,10 +47,10 @@ line event s =
     lineHead event s ++ spaced (decimal (s .place .start)) ++ spaced (decimal (s .place .length)) ++ spaced (signed (moveOf (s .frame)))
     ++ newline
 
--- 10.6: T, events done, events refused, the share of the overflow in percent, held bytes
+-- 10.6: T, events done, events refused, the overflow percentage, held bytes
 unfoldable pub lastLine : Tally → BufferPool → List ℕ
 lastLine t r =
-    (84 ∷ []) ++ spaced (decimal (t .done)) ++ spaced (decimal (t .refused)) ++ spaced (decimal (percent t)) ++ spaced (decimal (held r))
+    (84 ∷ []) ++ spaced (decimal (t .done)) ++ spaced (decimal (t .refused)) ++ spaced (decimal (percent (t .spilled) (t .takes))) ++ spaced (decimal (held r))
     ++ newline
 
 -- the lines of these events of a run, the first of them with i events before it, and line T

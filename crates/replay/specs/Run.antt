@@ -2,7 +2,7 @@
 -- definitions of the crate buffer_pool.
 use mathlib.Core.Bool.{Bool, true, false, _&&_}
 use mathlib.Core.List.{List}
-use Prim.Native.Nat.{ℕ, _+_, _-_, _*_, _/_, _≤_, min}
+use Prim.Native.Nat.{ℕ, _+_, _-_, _≤_, min}
 use lib.Dec.{leb, eqb}
 use lib.ListN.{length}
 use lib.Seq.{sets}
@@ -53,11 +53,6 @@ counted t v =
       takes = t .takes + takenOf v;
       spilled = t .spilled + spilledOf v;
     }
-
--- 10.6: "the count of takes that copied at least one byte times 100, divided by the count of all takes that were not
--- refused and whose frame was not empty, rounded down; 0 if there were none"
-unfoldable pub percent : Tally → ℕ
-percent t = pick (eqb (t .takes) 0) 0 (t .spilled * 100 / t .takes)
 
 -- ---- What a line shows
 

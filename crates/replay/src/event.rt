@@ -95,18 +95,6 @@ fn counted(t: Tally, answer: Answer) -> Tally
     }
 }
 
-// Of the non-empty takes, those from the overflow in whole percent, rounded down.
-pub(crate) fn percent(t: Tally) -> u64
-    requires { ⌜ spec.Within (2 ^ 32) t ⌝ }
-    ensures { λ r. ⌜ r ≡ spec.percent t ⌝ }
-{
-    let takes = t.takes;
-    if takes == 0 {
-        return 0;
-    }
-    t.spilled * 100 / takes
-}
-
 // ---- What a line shows
 
 // The letter of a kind.

@@ -2,6 +2,7 @@
 // `replay_whole` are what a program calls; neither has a `requires`.
 mod event;
 mod listing;
+mod percent;
 mod slots;
 mod text;
 mod walk;

@@ -122,9 +122,16 @@ fn run(list: &List, mut bytes: &[u8]) -> String {
         let (live, start, len) = (record.live, answer.start, answer.len);
         out += &format!("{} {letter} {refusal} {mode} {live:02x} {start} {len} {moved}\n", at + 1);
     }
-    let percent = (copied * 100usize).checked_div(taken).unwrap_or(0);
+    let percent = percent(copied, taken);
     let held: usize = judge.slices().map(|(_, bytes)| bytes.len()).sum();
     out + &format!("T {} {refused} {percent} {held}\n", list.events.len() - refused)
+}
+
+/// The overflow percentage: of the whole numbers up to 100, each of them tried, the one nearest to
+/// 100 × copied / taken, and of two the even one. Without takes all are as near, and 0 is the first.
+fn percent(copied: usize, taken: usize) -> usize {
+    let distance = |percent: usize| (percent * taken).abs_diff(100 * copied);
+    (0..=100).min_by_key(|&percent| (distance(percent), percent % 2)).expect("there are some")
 }
 
 /// Copies what a commit takes of the trace's bytes into the reservation; gives the rest.
@@ -265,6 +272,20 @@ mod tests {
     #[test]
     fn the_listing_of_document_01() {
         assert_eq!(listing(&example()), crate::cases::LISTING);
+    }
+
+    /// The percentages that W-204 names, and others with both neighbours below, at and above the half.
+    #[test]
+    fn percentages_to_the_nearest_and_halves_to_the_even() {
+        let named = [(1, 8, 12), (3, 8, 38), (1, 3, 33), (1, 2, 50)];
+        let halves =
+            [(1, 200, 0), (3, 200, 2), (5, 8, 62), (7, 8, 88), (1, 40, 2), (199, 200, 100)];
+        let below = [(1, 16, 6), (1, 7, 14), (1, 11, 9), (1, 201, 0)];
+        let above = [(1, 6, 17), (1, 13, 8), (2, 3, 67), (6, 7, 86), (1, 199, 1)];
+        let whole = [(0, 0, 0), (0, 5, 0), (5, 5, 100), (1, 100, 1)];
+        for (copied, taken, due) in [&named[..], &halves, &below, &above, &whole].concat() {
+            assert_eq!(percent(copied, taken), due, "{copied} of {taken}");
+        }
     }
 
     /// Each caller's serials start at 1, and a release finds the slice by caller and serial: the
