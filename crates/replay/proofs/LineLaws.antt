@@ -43,7 +43,7 @@ pub last-line : (o p q r s t u : Output) (n : Tally) (k : BufferPool) (g h : ℕ
     → t ≡ wrote s (spaced (decimal h)) → u ≡ wrote t newline → u ≡ wrote o (lastLine n k)
 unfolding lastLine
 last-line o p q r s t u n k g h e f x y z v w end =
-    rw (← e, ← f) (after o t u _ _ (five o p q r _ _ _ x y z s t _ _ v w) end)
+    after o t u _ _ (five o p q r _ _ _ x y z s t _ _ (v ∙ ap (λ (i : ℕ). wrote r (spaced (decimal i))) e) (w ∙ ap (λ (i : ℕ). wrote s (spaced (decimal i))) f)) end
 
 pub refused-word : (o p q : Output) (number : ℕ) → p ≡ wrote o (114 ∷ 101 ∷ 102 ∷ 117 ∷ 115 ∷ 101 ∷ 100 ∷ [])
     → q ≡ wrote p (spaced (decimal number)) → q ≡ wrote o (refusedWith number)

@@ -16,7 +16,7 @@ use Rattle.replay.specs.Percentage.{evenNeighbour, nearest, distance, Is
 -- ---- Distances
 
 -- the multiples of two numbers are d or more apart
-pub apart : (d j k : ℕ) → j < k → j * d + d ≤ k * d
+apart : (d j k : ℕ) → j < k → j * d + d ≤ k * d
 apart d j k l = omega (arith, suc-mul j d, mul-le-mul-right d l)
 
 -- the even one of q and q + 1 is one of the two, and even
@@ -72,20 +72,19 @@ module _ (n d q r : ℕ) (is : q * d + r ≡ n) (l : r < d) where
   halfway k (inl w) h e = nearer k (inl w) (rw w (omega (arith, below))) (rw w (omega (arith, below, h))) (λ s. e)
   halfway k (inr w) h e = nearer k (inr w) (rw w (omega (arith, beyond, h))) (rw w (omega (arith, beyond))) (λ s. e)
 
-  -- n / d below the half, at it and above it
-  is-nearest : IsNearest n d (pick (ltb (2 * r) d) q (pick (eqb (2 * r) d) (evenNeighbour q) (q + 1)))
-  is-nearest = go (ltb (2 * r) d) refl (eqb (2 * r) d) refl
+  -- n / d below the half, above it and at it
+  is-nearest : IsNearest n d (pick (ltb (2 * r) d) q (pick (ltb d (2 * r)) (q + 1) (evenNeighbour q)))
+  is-nearest = go (ltb (2 * r) d) refl (ltb d (2 * r)) refl
     where
-      go : (a : Bool) → ltb (2 * r) d ≡ a → (b : Bool) → eqb (2 * r) d ≡ b → IsNearest n d (pick a q (pick b (evenNeighbour q) (q + 1)))
+      go : (a : Bool) → ltb (2 * r) d ≡ a → (b : Bool) → ltb d (2 * r) ≡ b → IsNearest n d (pick a q (pick b (q + 1) (evenNeighbour q)))
       go true a b e =
           let h = ltb-true (2 * r) d a in
           nearer q (inl refl) (omega (arith, below)) (omega (arith, below, h)) (λ s. absurd (omega (arith, h, s)))
       go false a true e =
-          halfway (evenNeighbour q) (even-neighbour q .0) (eqb-true (2 * r) d e) (even-neighbour q .1)
+          let h = ltb-true d (2 * r) e in
+          nearer (q + 1) (inr refl) (omega (arith, beyond, h)) (omega (arith, beyond)) (λ s. absurd (omega (arith, h, s)))
       go false a false e =
-          let h = ltb-false (2 * r) d a in
-          let o = eqb-false (2 * r) d e in
-          nearer (q + 1) (inr refl) (omega (arith, beyond, h)) (omega (arith, beyond)) (λ s. absurd (o (omega (arith, s))))
+          halfway (evenNeighbour q) (even-neighbour q .0) (omega (arith, ltb-false (2 * r) d a, ltb-false d (2 * r) e)) (even-neighbour q .1)
 
 pub nearest-is : (n d : ℕ) → 0 < d → IsNearest n d (nearest n d)
 unfolding nearest
@@ -120,3 +119,14 @@ one-nearest n d j k p J K = go (decLt j k) (decLt k j)
     go (yes a) b = absurd (not-two n d j k p J K a)
     go (no a) (yes b) = absurd (not-two n d k j p K J b)
     go (no a) (no b) = omega (arith, a, b)
+
+-- ---- A bound
+
+-- where n / d is m at most, so is a nearest number: one above m would be further away than m
+pub nearest-most : (n d k m : ℕ) → 0 < d → n ≤ m * d → IsNearest n d k → k ≤ m
+unfolding distance
+nearest-most n d k m p h K = go (decLt m k)
+  where
+    go : Dec (m < k) → k ≤ m
+    go (no a) = omega (arith, a)
+    go (yes a) = absurd (omega (arith, apart d m k a, K .none-nearer m))

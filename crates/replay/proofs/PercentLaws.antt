@@ -19,13 +19,13 @@ module _ (n d : ℕ) where
   below-half l = rw (lt-ltb (2 * (n % d)) d l) refl
 
   module _ (h : d ≤ 2 * (n % d)) where
-    pub at-half : 2 * (n % d) ≡ d → (k : ℕ) → k ≡ evenNeighbour (n / d) → k ≡ nearest n d
+    pub above-half : d < 2 * (n % d) → n / d + 1 ≡ nearest n d
     unfolding nearest
-    at-half e k is = is ∙ rw (le-ltb (2 * (n % d)) d h, eq-eqb (2 * (n % d)) d e) refl
+    above-half l = rw (le-ltb (2 * (n % d)) d h, lt-ltb d (2 * (n % d)) l) refl
 
-    pub above-half : (2 * (n % d) ≡ d → ⊥) → n / d + 1 ≡ nearest n d
+    pub at-half : 2 * (n % d) ≤ d → (k : ℕ) → k ≡ evenNeighbour (n / d) → k ≡ nearest n d
     unfolding nearest
-    above-half o = rw (le-ltb (2 * (n % d)) d h, ne-eqb (2 * (n % d)) d o) refl
+    at-half l k is = is ∙ rw (le-ltb (2 * (n % d)) d h, le-ltb d (2 * (n % d)) l) refl
 
 module _ (part all : ℕ) where
   pub no-takes : all ≡ 0 → 0 ≡ percent part all

@@ -6,8 +6,8 @@ use Prim.Native.Nat.{ℕ, _+_, _*_, _%_, _≤_, _<_}
 use native.Mathlib.Decide.{decLt}
 use native.Mathlib.Omega.{arith}
 use borrow.Author.Tests.{ne-eqb}
-use Rattle.replay.specs.Percentage.{evenNeighbour, percent, distance, IsNearest}
-use Rattle.replay.proofs.Nearest.{apart, even-neighbour, nearest-is, half-is, one-nearest}
+use Rattle.replay.specs.Percentage.{evenNeighbour, percent, IsNearest}
+use Rattle.replay.proofs.Nearest.{even-neighbour, nearest-is, half-is, one-nearest, nearest-most}
 
 -- no whole number is nearer, and of two that are as near it is the even one
 pub percent-is-nearest : (part all : ℕ) → 0 < all → IsNearest (part * 100) all (percent part all)
@@ -29,16 +29,10 @@ pub percent-without-takes : (part : ℕ) → percent part 0 ≡ 0
 unfolding percent
 percent-without-takes part = refl
 
--- more than 100 would be further away than 100 is
-past-hundred : (part all k : ℕ) → part ≤ all → 0 < all → 100 < k → distance (part * 100) all k ≤ distance (part * 100) all 100 → ⊥
-unfolding distance
-past-hundred part all k h p l a = omega (arith, apart all 100 k l, a)
-
 -- where the takes from the overflow are some of all takes, it is 100 at most
 pub percent-most : (part all : ℕ) → part ≤ all → percent part all ≤ 100
-percent-most part all h = go (decLt 0 all) (decLt 100 (percent part all))
+percent-most part all h = go (decLt 0 all)
   where
-    go : Dec (0 < all) → Dec (100 < percent part all) → percent part all ≤ 100
-    go (no z) o = let e : all ≡ 0 = omega (arith, z) in rw (e, percent-without-takes) (omega arith)
-    go (yes p) (no o) = omega (arith, o)
-    go (yes p) (yes o) = absurd (past-hundred part all (percent part all) h p o (percent-is-nearest part all p .none-nearer 100))
+    go : Dec (0 < all) → percent part all ≤ 100
+    go (no z) = let e : all ≡ 0 = omega (arith, z) in rw (e, percent-without-takes) (omega arith)
+    go (yes p) = nearest-most (part * 100) all (percent part all) 100 p (omega arith) (percent-is-nearest part all p)

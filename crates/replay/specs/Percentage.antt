@@ -12,9 +12,9 @@ unfoldable pub evenNeighbour : ℕ → ℕ
 evenNeighbour q = pick (eqb (q % 2) 0) q (q + 1)
 
 -- n / d, "rounded to the nearest whole number, and an exact half goes to the even neighbour", by twice the remainder: less than d is
--- below the half, d the exact half, and more above it
+-- below the half, more is above it, and d itself is the exact half
 unfoldable pub nearest : ℕ → ℕ → ℕ
-nearest n d = pick (ltb (2 * (n % d)) d) (n / d) (pick (eqb (2 * (n % d)) d) (evenNeighbour (n / d)) (n / d + 1))
+nearest n d = pick (ltb (2 * (n % d)) d) (n / d) (pick (ltb d (2 * (n % d))) (n / d + 1) (evenNeighbour (n / d)))
 
 -- so many takes of all, in percent; "0 if there were none"
 unfoldable pub percent : ℕ → ℕ → ℕ

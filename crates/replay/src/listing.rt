@@ -9,7 +9,7 @@ ghost use Rattle.replay.specs.Listing as spec;
 use crate::event::Shown;
 use crate::event::Starts;
 use crate::event::Tally;
-use crate::percent::percent;
+use crate::percent::overflow_percent;
 use crate::slots::held;
 use crate::text::put;
 use crate::text::put_decimal;
@@ -101,7 +101,7 @@ pub(crate) fn put_last(out: &mut [u8], at: usize, t: Tally, r: BufferPool) -> us
     requires { ⌜ (at < 2 ^ 58) × Within (2 ^ 32) t × (r .slots ≤ mostSlots) ⌝ }
     ensures { λ n. ⌜ (output n (now (out .exit)) ≡ wrote (output at (now (out .entry))) (spec.lastLine t r)) × (n ≤ at + 128) ⌝ }
 {
-    let p = percent(t.spilled, t.takes);
+    let p = overflow_percent(t);
     let h = held(r);
     let a = put(out, at, b'T');
     let b = put_number(out, a, t.done);

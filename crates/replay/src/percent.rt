@@ -2,6 +2,8 @@
 ghost use mathlib.Core.Path.{_≡_};
 ghost use Prim.Native.Nat.{_≤_, _<_, _^_};
 ghost use Rattle.replay.specs.Percentage as spec;
+ghost use Rattle.replay.specs.Run.{Within};
+use crate::event::Tally;
 
 // Of `q` and `q + 1` the even one.
 fn even_neighbour(q: u64) -> u64
@@ -24,14 +26,14 @@ fn nearest(n: u64, d: u64) -> u64
     if twice < d {
         return q;
     }
-    if twice == d {
-        return even_neighbour(q);
+    if d < twice {
+        return q + 1;
     }
-    q + 1
+    even_neighbour(q)
 }
 
 // So many takes of all, in percent.
-pub(crate) fn percent(part: u64, all: u64) -> u64
+fn percent(part: u64, all: u64) -> u64
     requires { ⌜ part ≤ 2 ^ 32 ⌝ }
     ensures { λ r. ⌜ r ≡ spec.percent part all ⌝ }
 {
@@ -39,4 +41,12 @@ pub(crate) fn percent(part: u64, all: u64) -> u64
         return 0;
     }
     nearest(part * 100, all)
+}
+
+// Of the takes that were not empty, those from the overflow, in percent.
+pub(crate) fn overflow_percent(t: Tally) -> u64
+    requires { ⌜ Within (2 ^ 32) t ⌝ }
+    ensures { λ r. ⌜ r ≡ spec.percent (t .spilled) (t .takes) ⌝ }
+{
+    percent(t.spilled, t.takes)
 }

@@ -4,8 +4,8 @@ use borrow.Author.Needs.{needs}
 use Rattle.replay.proofs.listing.put_last.Statement.{statement}
 use Rattle.replay.proofs.listing.put_last.Tie as tie
 
-percent-requires : tie.Need-percent-requires
-percent-requires c κs = search needs
+overflow-percent-requires : tie.Need-overflow-percent-requires
+overflow-percent-requires c κs = search needs
 
 held-requires : tie.Need-held-requires
 held-requires c κs = search needs
@@ -38,7 +38,7 @@ pub put-last-spec : {M : Type 1} → statement M
 put-last-spec =
     tie.close
     (tie.spec
-    percent-requires
+    overflow-percent-requires
     held-requires
     put-requires
     put-number-requires

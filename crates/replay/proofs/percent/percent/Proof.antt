@@ -14,7 +14,8 @@ nearest-requires : tie.Need-nearest-requires
 nearest-requires c κs = search needs
 
 returns-2 : tie.Need-returns-2
-returns-2 c = search of-takes
+returns-2 c =
+    of-takes (c .before .before .args .part) (c .before .before .args .all) (c .before .if1 .left) (c .nearest .result) (c .nearest .ensures)
 
 pub percent-spec : {M : Type 1} → statement M
 percent-spec = tie.close (tie.spec returns mul-nearest nearest-requires returns-2)
