@@ -7,7 +7,7 @@ use crate::slice::Handle;
 
 // The front part of the pool. Its slots are those up to `back_start`, its bytes those below `byte_capacity`, and `len` of
 // its slots are used.
-#[derive(Drop)]
+#[derive(Clone, Copy)]
 pub struct PoolFront {
     pub back_start: usize,
     pub byte_capacity: u64,
@@ -15,7 +15,7 @@ pub struct PoolFront {
 }
 
 // Where the frame is gathered (SPECIFICATION 1.10): after the slices of the back (B), in the front (F), or in the overflow (A).
-#[derive(Drop)]
+#[derive(Clone, Copy)]
 pub enum PoolMode {
     Back,
     Front(PoolFront),
@@ -24,7 +24,7 @@ pub enum PoolMode {
 
 // The pool's record. The two memories that it speaks of are lent to each call. The arrays stand behind whole words: a copy of the
 // record then moves them at even places (docs/BENCHMARKS.md).
-#[derive(Drop)]
+#[derive(Clone, Copy)]
 pub struct BufferPool {
     // the lengths of the pool memory and of the overflow
     pub capacity: u64,
@@ -62,14 +62,14 @@ pub struct BufferPool {
 }
 
 // One of the two lent memories.
-#[derive(Drop)]
+#[derive(Clone, Copy)]
 pub enum Memory {
     Pool,
     Overflow,
 }
 
 // A range of one memory.
-#[derive(Drop)]
+#[derive(Clone, Copy)]
 pub struct Place {
     pub memory: Memory,
     pub start: u64,
@@ -77,14 +77,14 @@ pub struct Place {
 }
 
 // What a view shows: the number of its refusal, or 0, and its place. A refused view is the empty place at the pool memory's start.
-#[derive(Drop)]
+#[derive(Clone, Copy)]
 pub struct View {
     pub number: u8,
     pub place: Place,
 }
 
 // What a call answers.
-#[derive(Drop)]
+#[derive(Clone, Copy)]
 pub enum Answer {
     // new and release: done
     Done,
@@ -203,7 +203,7 @@ pub(crate) fn no_handle() -> Handle
 }
 
 // A call's record and answer.
-#[derive(Drop)]
+#[derive(Clone, Copy)]
 pub struct Called {
     pub pool: BufferPool,
     pub answer: Answer,

@@ -27,7 +27,7 @@ use crate::{refusals, steps};
 
 // What a reserve gives: the reservation or the number of its refusal, how often the mode changed, whether the starts and lengths of
 // all slots become 0, and the numbers.
-#[derive(Drop)]
+#[derive(Clone, Copy)]
 pub struct Reserving {
     pub view: View,
     pub changes: u32,
@@ -36,7 +36,7 @@ pub struct Reserving {
 }
 
 // What a commit or a truncate gives: the frame or the number of its refusal, and the numbers that it changes.
-#[derive(Drop)]
+#[derive(Clone, Copy)]
 pub struct Resizing {
     pub view: View,
     pub raw_len: u64,
@@ -45,7 +45,7 @@ pub struct Resizing {
 }
 
 // The entry of a slot, by its index, and the count of serials given to a caller.
-#[derive(Drop)]
+#[derive(Clone, Copy)]
 pub struct Entry {
     pub slot: usize,
     pub start: u32,
@@ -58,7 +58,7 @@ pub struct Entry {
 
 // What a take gives: the number of its refusal, or 0, how many bytes it copied, the handle, the entry that it leaves (where it takes no
 // slot, the first one as it stands) and the numbers.
-#[derive(Drop)]
+#[derive(Clone, Copy)]
 pub struct Taking {
     pub number: u8,
     pub copied: u64,
@@ -68,7 +68,7 @@ pub struct Taking {
 }
 
 // What a release gives: the number of its refusal, or 0, and the live slots.
-#[derive(Drop)]
+#[derive(Clone, Copy)]
 pub struct Releasing {
     pub number: u8,
     pub live: u16,

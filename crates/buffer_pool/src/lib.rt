@@ -1,6 +1,8 @@
 // The frame pool: the buffer pool of stratum-mining/stratum (`buffer_sv2`), over a record by value and two lent memories.
 // Every function here is proved to meet its contract. No public function has a `requires`: a call refuses by number, and a
 // refused call changes nothing.
+#![tactic(auto)]
+
 pub mod buffer_pool;
 mod calls;
 mod guard;

@@ -6,7 +6,7 @@ ghost use Rattle.buffer_pool.specs.Numbers.{Whole, rest_of, numbers_of, filled, 
 use crate::buffer_pool::{BufferPool, PoolMode};
 
 // The fields of `BufferPool`, but for its arrays.
-#[derive(Drop)]
+#[derive(Clone, Copy)]
 pub struct Numbers {
     pub capacity: u64,
     pub overflow: u64,

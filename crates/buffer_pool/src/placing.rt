@@ -16,7 +16,7 @@ use crate::slice::{leading, trailing};
 use crate::{pool_back, pool_front};
 
 // A clear that was tried: was it made, and the numbers after it, or those before where it was not.
-#[derive(Drop)]
+#[derive(Clone, Copy)]
 pub struct Cleared {
     pub cleared: bool,
     pub numbers: Numbers,
@@ -24,7 +24,7 @@ pub struct Cleared {
 
 // What one call of `reserve_` does: the mode keeps the frame, or it changes and the frame is placed again; `entered` says that the
 // overflow was entered just now. The frame goes by `via` to where the numbers say, or out to the overflow.
-#[derive(Drop)]
+#[derive(Clone, Copy)]
 pub struct ModeStep {
     pub again: bool,
     pub entered: bool,
@@ -34,7 +34,7 @@ pub struct ModeStep {
 
 // The whole decision of a reserve: is the overflow too short for it? If not, the next numbers, the count of mode changes, the length
 // kept of the overflow before it grows, and the frame's way.
-#[derive(Drop)]
+#[derive(Clone, Copy)]
 pub struct Decided {
     pub too_long: bool,
     pub numbers: Numbers,
@@ -45,7 +45,7 @@ pub struct Decided {
 
 // Whether a reserve moves no byte: the frame stays where it is and fits; it starts over, empty, at the pool's start; or it stays in the
 // overflow, which grows.
-#[derive(Drop)]
+#[derive(Clone, Copy)]
 pub struct FastPath {
     pub settled: bool,
     pub starts_over: bool,
@@ -54,7 +54,7 @@ pub struct FastPath {
 
 // What a reserve starts from after a reset: the numbers, whether the frame is brought in from the overflow, and whether the starts and
 // lengths of all slots become 0.
-#[derive(Drop)]
+#[derive(Clone, Copy)]
 pub struct Start {
     pub numbers: Numbers,
     pub brought: bool,

@@ -10,7 +10,7 @@ use crate::inner_memory::{copy_between, copy_within};
 
 // The frame's length, where it starts, and two places for each call of `reserve_`; a place that is the one before is no move. From the
 // last place it goes out to the overflow, or it stays there.
-#[derive(Drop)]
+#[derive(Clone, Copy)]
 pub struct Route {
     pub size: u64,
     pub start: u64,

@@ -7,7 +7,7 @@ ghost use Rattle.buffer_pool.specs.Record.{most_slots};
 use crate::buffer_pool::BufferPool;
 
 // What a take gives for a slice: its slot, its place in the pool memory, its serial and its caller.
-#[derive(Drop)]
+#[derive(Clone, Copy)]
 pub struct Handle {
     pub slot: u8,
     pub start: u32,

@@ -16,7 +16,7 @@ const TOP: u32 = 2147483648;
 
 // Where a run of live slots ends: are they in order; if so, the index after them, the end of the last one, and the bits of the slots from
 // that index on, at the top of a word.
-#[derive(Drop)]
+#[derive(Clone, Copy)]
 struct RunEnd {
     sound: bool,
     next: usize,
@@ -298,7 +298,7 @@ pub(crate) fn front_sound<'a>(
 }
 
 // The slots after slot `first`, and the bytes that they lie in.
-#[derive(Drop)]
+#[derive(Clone, Copy)]
 struct Span {
     first: usize,
     from: u64,

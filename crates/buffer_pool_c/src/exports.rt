@@ -11,7 +11,7 @@ use buffer_pool::buffer_pool::BufferPool;
 
 // `buffer_pool_created`: the record of a new pool.
 #[repr(C)]
-#[derive(Drop)]
+#[derive(Clone, Copy)]
 pub struct NewResult {
     pub record: Record,
     pub refusal: u64,

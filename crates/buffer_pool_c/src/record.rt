@@ -8,7 +8,7 @@ use buffer_pool::numbers::Numbers;
 // `buffer_pool_record`: the fields of the pool's record, its mode as a number and the front's three numbers beside it. It has no
 // padding: `live` and `mode` fill one word.
 #[repr(C)]
-#[derive(Drop)]
+#[derive(Clone, Copy)]
 pub struct Record {
     pub capacity: u64,
     pub overflow: u64,
@@ -166,7 +166,7 @@ fn mode_after(before: u32, mode: PoolMode, number: u8) -> u32
 }
 
 // The numbers of a record that a reserve or a take may change, as C holds them.
-#[derive(Drop)]
+#[derive(Clone, Copy)]
 pub struct Changed {
     pub live: u32,
     pub mode: u32,

@@ -9,7 +9,7 @@ use buffer_pool::slice;
 
 // `buffer_pool_place`: a range of one memory, 0 the pool memory and 1 the overflow.
 #[repr(C)]
-#[derive(Drop)]
+#[derive(Clone, Copy)]
 pub struct Place {
     pub start: u64,
     pub length: u64,
@@ -18,7 +18,7 @@ pub struct Place {
 
 // `buffer_pool_handle`: a slice that lives in the pool.
 #[repr(C)]
-#[derive(Drop)]
+#[derive(Clone, Copy)]
 pub struct Handle {
     pub start: u32,
     pub length: u32,
@@ -29,7 +29,7 @@ pub struct Handle {
 
 // `buffer_pool_reserved`: the reservation, and how often the mode changed.
 #[repr(C)]
-#[derive(Drop)]
+#[derive(Clone, Copy)]
 pub struct ReserveResult {
     pub place: Place,
     pub changes: u64,
@@ -38,7 +38,7 @@ pub struct ReserveResult {
 
 // `buffer_pool_placed`: a frame, or what a view shows.
 #[repr(C)]
-#[derive(Drop)]
+#[derive(Clone, Copy)]
 pub struct PlaceResult {
     pub place: Place,
     pub refusal: u64,
@@ -46,7 +46,7 @@ pub struct PlaceResult {
 
 // `buffer_pool_taken`: a slice of the pool, or with slot 0 the count of bytes that went to the destination.
 #[repr(C)]
-#[derive(Drop)]
+#[derive(Clone, Copy)]
 pub struct TakeResult {
     pub handle: Handle,
     pub copied: u64,

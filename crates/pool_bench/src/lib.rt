@@ -1,4 +1,6 @@
 // The pool driven from inside Rattle, for rust/bench: rounds of the four calls on a record that never crosses to C.
+#![tactic(auto)]
+
 ghost use Rattle.std.specs.Prelude.{◌≡◌, []};
 ghost use Rattle.buffer_pool.specs.Moves.{memories};
 ghost use Rattle.buffer_pool.specs.Steps.{given_to};

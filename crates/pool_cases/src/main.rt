@@ -1,5 +1,7 @@
 // Runs lists of calls and view writes (oracle/README.md has the form of the file) through the public calls and views, and prints
 // each answer and, for memories of at most 64 bytes, every byte shown. The stored output is the Rust's.
+#![tactic(auto)]
+
 ghost use Rattle.std.specs.Prelude.{◌≡◌, ◌≤◌, ◌<◌, length};
 
 use buffer_pool::buffer_pool::{Answer, BufferPool, Called, PoolMode};
@@ -116,7 +118,7 @@ fn number_at(file: &[u8], at: usize) -> u64
 }
 
 // An event of a list (oracle/README.md): kinds 1 to 5 are calls, 6 to 8 writes.
-#[derive(Drop)]
+#[derive(Clone, Copy)]
 struct ListEvent {
     kind: u64,
     value: u64,
@@ -240,7 +242,7 @@ fn write(view: &mut [u8], i: u64, value: u64) {
 }
 
 // What a line tells of an event: its refusal or 0, a start and a length, and how often the mode changed.
-#[derive(Drop)]
+#[derive(Clone, Copy)]
 struct Told {
     refusal: u8,
     start: u64,
@@ -342,7 +344,7 @@ fn put_shown<'a>(
 }
 
 // The record after an event, what its line tells, and how many bytes of the destination it shows.
-#[derive(Drop)]
+#[derive(Clone, Copy)]
 struct Ran {
     p: BufferPool,
     told: Told,

@@ -1,11 +1,13 @@
 // poolreplay: reads a trace from standard input and prints its listing (SPECIFICATION 9 and 10). All of that is the crate replay's.
 // Where standard input cannot be read, or standard output not written, it says so on standard error (10.8).
+#![tactic(auto)]
+
 ghost use Rattle.io.specs.Counts.{IsPrefixLen};
 
 use libc::{STDERR_FILENO, STDIN_FILENO, STDOUT_FILENO};
 
 // What reading gave: so many bytes, and whether a read then failed.
-#[derive(Drop)]
+#[derive(Clone, Copy)]
 struct Input {
     length: usize,
     failed: bool,

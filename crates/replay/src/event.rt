@@ -14,7 +14,7 @@ use buffer_pool::slice::Handle;
 use trace::Event;
 
 // How many events were done and how many refused; how many takes were non-empty, and how many of these came from the overflow.
-#[derive(Drop)]
+#[derive(Clone, Copy)]
 pub struct Tally {
     pub done: u64,
     pub refused: u64,
@@ -23,7 +23,7 @@ pub struct Tally {
 }
 
 // What the run keeps between two events: the pool's record, the count of trace bytes used, and the counts of line T.
-#[derive(Drop)]
+#[derive(Clone, Copy)]
 pub struct State {
     pub pool: BufferPool,
     pub next: usize,
@@ -31,21 +31,21 @@ pub struct State {
 }
 
 // The start and length that a line shows.
-#[derive(Drop)]
+#[derive(Clone, Copy)]
 pub struct Extent {
     pub start: u64,
     pub length: u64,
 }
 
 // The two frame starts of which a line shows the difference.
-#[derive(Drop)]
+#[derive(Clone, Copy)]
 pub struct Starts {
     pub before: u64,
     pub after: u64,
 }
 
 // What the line of an event shows after the event's number.
-#[derive(Drop)]
+#[derive(Clone, Copy)]
 pub struct Shown {
     pub kind: u8,
     pub refusal: u8,
@@ -56,7 +56,7 @@ pub struct Shown {
 }
 
 // What an event leaves, and what its line shows.
-#[derive(Drop)]
+#[derive(Clone, Copy)]
 pub struct Step {
     pub state: State,
     pub shown: Shown,

@@ -1,5 +1,7 @@
 // The run of a trace and its listing (SPECIFICATION 9 and 10). Every function here is proved to meet its contract. `replay` and
 // `replay_whole` are what a program calls; neither has a `requires`.
+#![tactic(auto)]
+
 mod event;
 mod held;
 mod listing;
@@ -20,7 +22,7 @@ use crate::walk::put_trace;
 pub const LISTING_LIMIT: usize = 26 + 8_189 * 33 + 22;
 
 // What `replay` answers: the listing was written and is so long, or the output is too short and must be so long.
-#[derive(Drop)]
+#[derive(Clone, Copy)]
 pub enum Answer {
     Listed(usize),
     TooShort(usize),

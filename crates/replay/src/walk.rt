@@ -16,7 +16,7 @@ use buffer_pool::buffer_pool::BufferPool;
 use trace::{Event, Header};
 
 // Where the walk is: the place in the output, and the run's state.
-#[derive(Drop)]
+#[derive(Clone, Copy)]
 pub struct Walk {
     pub at: usize,
     pub state: State,

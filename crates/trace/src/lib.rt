@@ -1,5 +1,7 @@
 // Reading a trace file (SPECIFICATION 9). Every function here is proved to meet its contract. No public function has a `requires`:
 // a file that is not a trace is refused by `read`, and the others answer for any file.
+#![tactic(auto)]
+
 ghost use Rattle.std.specs.Prelude.{◌≡◌, ◌+◌, ◌<◌, ◌^◌, get_or};
 ghost use Rattle.trace.specs.Trace.{number_at, sized, in_order, ended, headed, filler_zero, has_caller, caller_right, right, good_at, first_bad, reading, refusal_of, event_place, event_at};
 ghost use Rattle.trace.specs.Content.{content, no_event, bytes_place, moved_on};
@@ -35,7 +37,7 @@ pub const RELEASE: u8 = 5;
 pub const MOST_CALLER: u8 = 3;
 
 // The numbers of an accepted header: the two sizes, the count of events and the count of bytes.
-#[derive(Drop)]
+#[derive(Clone, Copy)]
 pub struct Header {
     pub capacity: u32,
     pub overflow: u32,
@@ -44,7 +46,7 @@ pub struct Header {
 }
 
 // An event: its kind, its caller (of a take or a release; 0 in a good event of another kind) and its number.
-#[derive(Drop)]
+#[derive(Clone, Copy)]
 pub struct Event {
     pub kind: u8,
     pub caller: u8,
@@ -52,7 +54,7 @@ pub struct Event {
 }
 
 // What reading a file gives: its header's numbers, or that the header is wrong, or the first bad event, counted from 1.
-#[derive(Drop)]
+#[derive(Clone, Copy)]
 pub enum Answer {
     Trace(Header),
     BadHeader,
