@@ -1,0 +1,7 @@
+-- `buffer_pool::BufferPool::commit` meets its contract. Assumes nothing.
+use Rattle.buffer_pool.proofs.LentLaws.{commit_called}
+use borrow.Author.Rules.{rules}
+use Rattle.buffer_pool.proofs.buffer_pool.BufferPool.commit.Goals as goal
+
+pub returns : goal.returns
+returns c = search commit_called

@@ -1,0 +1,14 @@
+-- `buffer_pool::BufferPool::slice` meets its contract. Assumes nothing.
+use Rattle.buffer_pool.proofs.ViewLaws.{slice_within, slice_bytes, slice_pointer}
+use borrow.Author.Rules.{rules}
+use Rattle.buffer_pool.proofs.buffer_pool.BufferPool.slice.Goals as goal
+
+pub part-requires : goal.part-requires
+part-requires c = search slice_within
+
+pub returns : goal.returns
+returns c =
+    record {
+      result_value = search slice_bytes;
+      ref_ptr_value = search slice_pointer;
+    }

@@ -1,0 +1,11 @@
+use borrow.Author.Rules.{rules}
+use Prim.Native.Nat.{◌-◌}
+use Rattle.buffer_pool.specs.SlotPass.{Passed}
+use Rattle.buffer_pool.proofs.SlotPassLaws.{none_passed, index_within, index_bytes, index_on, fewer_left, empty_fails, early_fails, live_passed, run_passes}
+use Rattle.buffer_pool.proofs.sound.run.Given as goal
+
+abbrev pub invariant-loop-word : goal.invariant-loop-word
+invariant-loop-word l = Passed l.slots l.starts l.lengths l.live l.first l.from l.i l.end l.word
+
+abbrev pub decreases-loop-word : goal.decreases-loop-word
+decreases-loop-word l = l.slots - l.i

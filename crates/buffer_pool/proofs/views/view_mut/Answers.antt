@@ -1,0 +1,24 @@
+-- `views::view_mut` meets its contract. Assumes nothing.
+use Rattle.buffer_pool.proofs.ViewLaws.{lies_pool, bytes_pool, pointer_pool, lies_overflow, bytes_overflow, pointer_overflow}
+use borrow.Author.Rules.{rules}
+use Rattle.buffer_pool.proofs.views.view_mut.Goals as goal
+
+pub part_mut-requires : goal.part_mut-requires
+part_mut-requires c = search lies_pool
+
+pub part_mut-requires-in-Overflow : goal.part_mut-requires-in-Overflow
+part_mut-requires-in-Overflow c = search lies_overflow
+
+pub returns-in-Pool : goal.returns-in-Pool
+returns-in-Pool c =
+    record {
+      result_value = search bytes_pool;
+      ref_ptr_value = search pointer_pool;
+    }
+
+pub returns-in-Overflow : goal.returns-in-Overflow
+returns-in-Overflow c =
+    record {
+      result_value = search bytes_overflow;
+      ref_ptr_value = search pointer_overflow;
+    }

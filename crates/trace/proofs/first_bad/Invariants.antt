@@ -1,0 +1,12 @@
+use borrow.Author.Rules.{rules}
+use Prim.Native.Nat.{◌-◌, ◌≤◌}
+use mathlib.Core.Path.{◌≡◌}
+use Rattle.trace.specs.Trace.{first_bad}
+use Rattle.trace.proofs.EventLaws.{none_bad, good_more, bad_here, all_good}
+use Rattle.trace.proofs.first_bad.Given as goal
+
+abbrev pub invariant-loop-i : goal.invariant-loop-i
+invariant-loop-i l = (l.i ≤ l.events) × (first_bad l.file 0 l.events ≡ first_bad l.file l.i (l.events - l.i))
+
+abbrev pub decreases-loop-i : goal.decreases-loop-i
+decreases-loop-i l = l.events - l.i
