@@ -1,5 +1,5 @@
 -- Writing then reading: the file of a content that passes the tests of 9 and 10 is accepted and holds that content. Assumes nothing.
-use mathlib.Core.Path.{◌≡◌, refl, sym, ap, ap₂, ◌∙◌}
+use mathlib.Core.Path.{◌≡◌, refl, sym, ap, ap₂, ◌∙◌, subst}
 use mathlib.Core.Bool.{true}
 use mathlib.Core.List.{List, [], ◌∷◌, ◌++◌, append_assoc}
 use Prim.Native.Nat.{ℕ, zero, suc, ◌+◌, ◌*◌, ◌^◌, ◌≤◌, ◌<◌}
@@ -7,6 +7,7 @@ use native.Mathlib.Omega.{arith}
 use borrow.Author.Tests.{leb-true, eq-eqb}
 use lib.ListN.{length, get_or, drop, length-append}
 use lib.Seq.{get_or-append-add, get_or_at, drop_at}
+use Rattle.laws.specs.Tests.{pick}
 use Rattle.laws.proofs.Tests.{both, leb_and}
 use Rattle.trace.specs.declared.Event.{Event}
 use Rattle.trace.specs.declared.Header.{Header}
@@ -86,10 +87,17 @@ events_there (e ∷ es) pre a rest p small =
     let next : length (pre ++ event_bytes e) ≡ event_place (suc a) = length-append pre (event_bytes e) ∙ omega (arith, length_event e) in
     let after = events_there es (pre ++ event_bytes e) (suc a) rest next (λ i. small (suc i)) in
     let moved : pre ++ (event_bytes e ++ more) ≡ pre ++ event_bytes e ++ more = sym (append_assoc pre (event_bytes e) more) in
-    rw (append_assoc (event_bytes e) (events_bytes es) rest) (
-      ap₂ (λ (x : Event) (r : List Event). x ∷ r) (event_there pre a p e more (small 0)) (rw moved after.0),
-      rw (good_there pre a p e more (small 0), moved, after.1) refl,
-    )
+    let there : (events_from (pre ++ (event_bytes e ++ more)) a (suc (length es)) ≡ e ∷ es)
+        × (first_bad (pre ++ (event_bytes e ++ more)) a (suc (length es)) ≡ first_wrong a (e ∷ es)) = (
+      ap₂ (λ (x : Event) (r : List Event). x ∷ r) (event_there pre a p e more (small 0))
+      (subst (λ (f : List ℕ). events_from f (suc a) (length es) ≡ es) (sym moved) after.0),
+      rw (good_there pre a p e more (small 0))
+      (ap (λ (n : ℕ). pick (right e) n (suc a))
+      (subst (λ (f : List ℕ). first_bad f (suc a) (length es) ≡ first_wrong (suc a) es) (sym moved) after.1)),
+    ) in
+    subst
+    (λ (f : List ℕ). (events_from f a (suc (length es)) ≡ e ∷ es) × (first_bad f a (suc (length es)) ≡ first_wrong a (e ∷ es)))
+    (ap (λ (f : List ℕ). pre ++ f) (sym (append_assoc (event_bytes e) (events_bytes es) rest))) there
 
 module _ (c : Content) where
   length_written : length (written c) ≡ event_place (length c.events) + length c.bytes
