@@ -24,7 +24,7 @@ use Rattle.buffer_pool.specs.declared.placing.ModeStep.{ModeStep}
 use Rattle.buffer_pool.specs.declared.placing.Decided.{Decided}
 use Rattle.buffer_pool.specs.Record.{framed}
 use Rattle.buffer_pool.specs.Numbers.{numbers_of, plain, bare}
-use Rattle.buffer_pool.specs.Moves.{Move, within}
+use Rattle.buffer_pool.specs.Moves.{Move}
 use Rattle.buffer_pool.specs.Placing.{Decision, Layer, stay, change, finish, first, grows, resolve_on, to_alloc, clearable, tail_fits, tail_cleared, head_fits, head_cleared, stays, back_on, front_cleared, leave_on, front_on, alloc_on, place_of, back_layer, front_layer, alloc_layer, layer, is_alloc, is_too_long}
 use Rattle.buffer_pool.specs.Deciding.{front_len_of, Placeable, Reaches, Decides, cleared_on, step, layer_of, step_moves, route_moves, onward, decided, decision_of, finished, finished_on, following}
 use Rattle.buffer_pool.specs.Sound.{InMode}

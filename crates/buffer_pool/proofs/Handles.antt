@@ -10,7 +10,6 @@ use native.Mathlib.Decide.{ℕ_discrete}
 use native.Mathlib.Omega.{arith}
 use borrow.Author.Tests.{eqb-true, eqb-false, leb-false}
 use lib.Dec.{leb, ltb, eqb}
-use lib.ListN.{length}
 use Rattle.laws.specs.Tests.{pick}
 use Rattle.laws.specs.Live.{live_at}
 use Rattle.laws.proofs.Tests.{no_true, pick_cases}

@@ -88,12 +88,12 @@ events_there (e ∷ es) pre a rest p small =
     let after = events_there es (pre ++ event_bytes e) (suc a) rest next (λ i. small (suc i)) in
     let moved : pre ++ (event_bytes e ++ more) ≡ pre ++ event_bytes e ++ more = sym (append_assoc pre (event_bytes e) more) in
     let there : (events_from (pre ++ (event_bytes e ++ more)) a (suc (length es)) ≡ e ∷ es)
-        × (first_bad (pre ++ (event_bytes e ++ more)) a (suc (length es)) ≡ first_wrong a (e ∷ es)) = (
+    × (first_bad (pre ++ (event_bytes e ++ more)) a (suc (length es)) ≡ first_wrong a (e ∷ es)) = (
       ap₂ (λ (x : Event) (r : List Event). x ∷ r) (event_there pre a p e more (small 0))
-      (subst (λ (f : List ℕ). events_from f (suc a) (length es) ≡ es) (sym moved) after.0),
+          (subst (λ (f : List ℕ). events_from f (suc a) (length es) ≡ es) (sym moved) after.0),
       rw (good_there pre a p e more (small 0))
-      (ap (λ (n : ℕ). pick (right e) n (suc a))
-      (subst (λ (f : List ℕ). first_bad f (suc a) (length es) ≡ first_wrong (suc a) es) (sym moved) after.1)),
+          (ap (λ (n : ℕ). pick (right e) n (suc a))
+          (subst (λ (f : List ℕ). first_bad f (suc a) (length es) ≡ first_wrong (suc a) es) (sym moved) after.1)),
     ) in
     subst
     (λ (f : List ℕ). (events_from f a (suc (length es)) ≡ e ∷ es) × (first_bad f a (suc (length es)) ≡ first_wrong a (e ∷ es)))

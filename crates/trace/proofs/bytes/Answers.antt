@@ -1,6 +1,5 @@
 -- `bytes` meets its contract. The part from the byte offset on is the file with that many bytes dropped, and none where the file ends before. Assumes nothing.
 use Rattle.trace.proofs.ReadLaws.{no_bytes, no_place, some_bytes, some_place}
-use borrow.Author.Rules.{rules}
 use Rattle.trace.proofs.bytes.Goals as goal
 
 pub returns-then-file-at : goal.returns-then-file-at

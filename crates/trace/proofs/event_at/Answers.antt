@@ -1,6 +1,5 @@
 -- `event_at` meets its contract. The list of the events has the event of each index below the count, and no other. Assumes nothing.
 use Rattle.trace.proofs.ReadLaws.{no_event_lem, some_event}
-use borrow.Author.Rules.{rules}
 use Rattle.trace.proofs.event_at.Goals as goal
 
 pub returns-then-number-index : goal.returns-then-number-index

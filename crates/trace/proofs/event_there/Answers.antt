@@ -1,6 +1,5 @@
 -- `event_there` meets its contract. The event's kind, caller and number stand at its place. Assumes nothing.
 use Rattle.trace.proofs.EventLaws.{event_there}
-use borrow.Author.Rules.{rules}
 use Rattle.trace.proofs.event_there.Goals as goal
 
 pub returns : goal.returns

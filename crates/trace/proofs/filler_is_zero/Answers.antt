@@ -1,6 +1,5 @@
 -- `filler_is_zero` meets its contract. Each return knows the filler bytes tested on the way to it. Assumes nothing.
 use Rattle.trace.proofs.EventLaws.{first_filler, last_filler}
-use borrow.Author.Rules.{rules}
 use Rattle.trace.proofs.filler_is_zero.Goals as goal
 
 pub returns-then-byte_at-ne0 : goal.returns-then-byte_at-ne0

@@ -1,8 +1,5 @@
 -- `first_bad` meets its contract. While the events before index i are good, the first bad event is the first bad one from i on; what is left of the count falls. Assumes nothing.
 use borrow.Author.Rules.{rules}
-use Prim.Native.Nat.{◌-◌, ◌≤◌}
-use mathlib.Core.Path.{◌≡◌}
-use Rattle.trace.specs.Trace.{first_bad}
 use Rattle.trace.proofs.EventLaws.{none_bad, good_more, bad_here, all_good}
 use Rattle.trace.proofs.first_bad.Goals as goal
 

@@ -1,8 +1,6 @@
-use borrow.Author.Rules.{rules}
 use Prim.Native.Nat.{◌-◌, ◌≤◌}
 use mathlib.Core.Path.{◌≡◌}
 use Rattle.trace.specs.Trace.{first_bad}
-use Rattle.trace.proofs.EventLaws.{none_bad, good_more, bad_here, all_good}
 use Rattle.trace.proofs.first_bad.Given as goal
 
 abbrev pub invariant-loop-i : goal.invariant-loop-i

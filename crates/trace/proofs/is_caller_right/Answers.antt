@@ -1,6 +1,5 @@
 -- `is_caller_right` meets its contract. Each return knows whether the kind has a caller. Assumes nothing.
 use Rattle.trace.proofs.EventLaws.{caller_within, caller_none}
-use borrow.Author.Rules.{rules}
 use Rattle.trace.proofs.is_caller_right.Goals as goal
 
 pub returns-then-has_caller : goal.returns-then-has_caller

@@ -1,6 +1,5 @@
 -- `is_headed` meets its contract. Each refusal knows the clause that fails and those before it that hold; the last clause decides. Assumes nothing.
 use Rattle.trace.proofs.HeaderLaws.{incomplete, not_sized, not_in_order, in_order_lem}
-use borrow.Author.Rules.{rules}
 use Rattle.trace.proofs.is_headed.Goals as goal
 
 pub returns-then-file-lt-HEADER_LENGTH : goal.returns-then-file-lt-HEADER_LENGTH

@@ -1,6 +1,5 @@
 -- `is_in_order` meets its contract. A wrong byte offset refuses; at a right one the event offset decides. Assumes nothing.
 use Rattle.trace.proofs.HeaderLaws.{bytes_elsewhere, bytes_next}
-use borrow.Author.Rules.{rules}
 use Rattle.trace.proofs.is_in_order.Goals as goal
 
 pub returns-then-place-event_place : goal.returns-then-place-event_place

@@ -1,6 +1,5 @@
 -- `is_right` meets its contract. Each return knows the tests of the kind and of the caller on the way to it. Assumes nothing.
 use Rattle.trace.proofs.EventLaws.{kind_low, kind_high, caller_wrong, take_zero, other_kind}
-use borrow.Author.Rules.{rules}
 use Rattle.trace.proofs.is_right.Goals as goal
 
 pub returns-then-kind-lt-RESERVE : goal.returns-then-kind-lt-RESERVE

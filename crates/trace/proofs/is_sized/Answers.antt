@@ -1,6 +1,5 @@
 -- `is_sized` meets its contract. A large capacity refuses; within it the overflow decides. Assumes nothing.
 use Rattle.trace.proofs.HeaderLaws.{capacity_large, capacity_within}
-use borrow.Author.Rules.{rules}
 use Rattle.trace.proofs.is_sized.Goals as goal
 
 pub returns-then-number-gt-SIZE_LIMIT : goal.returns-then-number-gt-SIZE_LIMIT

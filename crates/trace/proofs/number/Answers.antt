@@ -1,6 +1,5 @@
 -- `number` meets its contract. Four bytes, each at most 255, add up to the number at that place. Assumes nothing.
 use Rattle.trace.proofs.NumberLaws.{four}
-use borrow.Author.Rules.{rules}
 use Rattle.trace.proofs.number.Goals as goal
 
 pub returns : goal.returns

@@ -1,6 +1,5 @@
 -- `read` meets its contract. Each answer knows the tests on the way to it: the header, then the first bad event or 0. Assumes nothing.
 use Rattle.trace.proofs.ReadLaws.{header_wrong, event_bad, accepted}
-use borrow.Author.Rules.{rules}
 use Rattle.trace.proofs.read.Goals as goal
 
 pub returns-then-not-is_headed : goal.returns-then-not-is_headed

@@ -1,7 +1,6 @@
 -- `guard::guard` meets its contract. Assumes nothing.
 use Rattle.buffer_pool.proofs.SoundTestLaws.{front_most, front_word, front_ends, front_first}
 use Rattle.buffer_pool.proofs.GuardLaws.{guard_front, guard_slots, guard_pool, guard_overflow, guard_none}
-use borrow.Author.Rules.{rules}
 use Rattle.buffer_pool.proofs.guard.guard.Goals as goal
 
 pub returns-then-not-sound : goal.returns-then-not-sound

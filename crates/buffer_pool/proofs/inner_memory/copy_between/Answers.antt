@@ -1,10 +1,6 @@
 -- `inner_memory::copy_between` meets its contract. The first i bytes are copied. Assumes nothing.
 use borrow.Author.Rules.{rules}
 use Rattle.buffer_pool.proofs.ByteLaws.{copied_none, copied_more, copied_all}
-use Rattle.laws.specs.Lists.{copied}
-use mathlib.Core.Path.{◌≡◌}
-use lib.ListN.{length}
-use Prim.Native.Nat.{◌-◌, ◌≤◌}
 use Rattle.buffer_pool.proofs.inner_memory.copy_between.Goals as goal
 
 pub loop-i-init : goal.loop-i-init

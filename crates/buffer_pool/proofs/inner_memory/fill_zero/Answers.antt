@@ -1,10 +1,6 @@
 -- `inner_memory::fill_zero` meets its contract. The bytes below i are cleared. Assumes nothing.
 use borrow.Author.Rules.{rules}
 use Rattle.buffer_pool.proofs.ByteLaws.{zeroed_none, zeroed_more, zeroed_all}
-use Rattle.laws.specs.Lists.{zeroed}
-use mathlib.Core.Path.{◌≡◌}
-use lib.ListN.{length}
-use Prim.Native.Nat.{◌-◌, ◌≤◌}
 use Rattle.buffer_pool.proofs.inner_memory.fill_zero.Goals as goal
 
 pub loop-i-init : goal.loop-i-init

@@ -1,5 +1,3 @@
-use borrow.Author.Rules.{rules}
-use Rattle.buffer_pool.proofs.ByteLaws.{zeroed_none, zeroed_more, zeroed_all}
 use Rattle.laws.specs.Lists.{zeroed}
 use mathlib.Core.Path.{◌≡◌}
 use lib.ListN.{length}

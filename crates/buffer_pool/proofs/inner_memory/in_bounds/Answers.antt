@@ -1,6 +1,5 @@
 -- `inner_memory::in_bounds` meets its contract. Assumes nothing.
 use Rattle.buffer_pool.proofs.BoundLaws.{past_offset, past_used, within_rest}
-use borrow.Author.Rules.{rules}
 use Rattle.buffer_pool.proofs.inner_memory.in_bounds.Goals as goal
 
 pub returns-then-end-offset : goal.returns-then-end-offset

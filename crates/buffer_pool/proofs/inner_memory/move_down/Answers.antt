@@ -1,10 +1,6 @@
 -- `inner_memory::move_down` meets its contract. The first i bytes are moved. Assumes nothing.
 use borrow.Author.Rules.{rules}
 use Rattle.buffer_pool.proofs.ByteLaws.{moved_none, down_more, down_all}
-use Rattle.laws.specs.Lists.{moved}
-use mathlib.Core.Path.{◌≡◌}
-use lib.ListN.{length}
-use Prim.Native.Nat.{◌-◌, ◌≤◌}
 use Rattle.buffer_pool.proofs.inner_memory.move_down.Goals as goal
 
 pub loop-i-init : goal.loop-i-init

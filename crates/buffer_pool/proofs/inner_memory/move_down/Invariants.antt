@@ -1,5 +1,3 @@
-use borrow.Author.Rules.{rules}
-use Rattle.buffer_pool.proofs.ByteLaws.{moved_none, down_more, down_all}
 use Rattle.laws.specs.Lists.{moved}
 use mathlib.Core.Path.{◌≡◌}
 use lib.ListN.{length}

@@ -1,10 +1,6 @@
 -- `inner_memory::move_up` meets its contract. The bytes from the i-th on are moved. Assumes nothing.
 use borrow.Author.Rules.{rules}
 use Rattle.buffer_pool.proofs.ByteLaws.{up_none, up_more, up_all}
-use Rattle.laws.specs.Lists.{copied}
-use mathlib.Core.Path.{◌≡◌}
-use lib.ListN.{length}
-use Prim.Native.Nat.{◌+◌, ◌-◌, ◌≤◌}
 use Rattle.buffer_pool.proofs.inner_memory.move_up.Goals as goal
 
 pub loop-i-init : goal.loop-i-init

@@ -1,5 +1,3 @@
-use borrow.Author.Rules.{rules}
-use Rattle.buffer_pool.proofs.ByteLaws.{up_none, up_more, up_all}
 use Rattle.laws.specs.Lists.{copied}
 use mathlib.Core.Path.{◌≡◌}
 use lib.ListN.{length}

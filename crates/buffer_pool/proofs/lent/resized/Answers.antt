@@ -1,6 +1,5 @@
 -- `lent::resized` meets its contract. Assumes nothing.
 use Rattle.buffer_pool.proofs.LentLaws.{resized_back, resized_front, resized_alloc}
-use borrow.Author.Rules.{rules}
 use Rattle.buffer_pool.proofs.lent.resized.Goals as goal
 
 pub returns-in-Back : goal.returns-in-Back

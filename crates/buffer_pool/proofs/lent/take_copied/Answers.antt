@@ -1,6 +1,5 @@
 -- `lent::take_copied` meets its contract. Assumes nothing.
 use Rattle.buffer_pool.proofs.TakeLaws.{short_take, short_destination, short_overflow, long_take, long_destination, long_overflow}
-use borrow.Author.Rules.{rules}
 use Rattle.buffer_pool.proofs.lent.take_copied.Goals as goal
 
 pub returns-then-destination-cursor : goal.returns-then-destination-cursor

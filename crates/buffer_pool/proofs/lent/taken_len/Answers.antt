@@ -1,6 +1,5 @@
 -- `lent::taken_len` meets its contract. Assumes nothing.
 use Rattle.buffer_pool.proofs.TakeLaws.{back_before, len_back}
-use borrow.Author.Rules.{rules}
 use Rattle.buffer_pool.proofs.lent.taken_len.Goals as goal
 
 pub overflow_sub-result : goal.overflow_sub-result

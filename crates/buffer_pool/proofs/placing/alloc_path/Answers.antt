@@ -1,6 +1,5 @@
 -- `placing::alloc_path` meets its contract. Assumes nothing.
 use Rattle.buffer_pool.proofs.Unmoved.{path_gone, path_kept, path_past}
-use borrow.Author.Rules.{rules}
 use Rattle.buffer_pool.proofs.placing.alloc_path.Goals as goal
 
 pub returns-then-not-keeps : goal.returns-then-not-keeps

@@ -1,6 +1,5 @@
 -- `placing::begin` meets its contract. Assumes nothing.
 use Rattle.buffer_pool.proofs.ResetLaws.{begins_reset, begins_here}
-use borrow.Author.Rules.{rules}
 use Rattle.buffer_pool.proofs.placing.begin.Goals as goal
 
 pub returns-then-resets : goal.returns-then-resets

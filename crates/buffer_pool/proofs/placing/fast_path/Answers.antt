@@ -1,6 +1,5 @@
 -- `placing::fast_path` meets its contract. Assumes nothing.
 use Rattle.buffer_pool.proofs.Unmoved.{path_over, path_back, path_front, path_alloc}
-use borrow.Author.Rules.{rules}
 use Rattle.buffer_pool.proofs.placing.fast_path.Goals as goal
 
 pub returns-then-resets : goal.returns-then-resets

@@ -1,6 +1,5 @@
 -- `placing::finish` meets its contract. Assumes nothing.
 use Rattle.buffer_pool.proofs.DecidingLaws.{finish_back, finish_front, finish_alloc}
-use borrow.Author.Rules.{rules}
 use Rattle.buffer_pool.proofs.placing.finish.Goals as goal
 
 pub returns-in-Back : goal.returns-in-Back

@@ -1,6 +1,5 @@
 -- `placing::finish_in_overflow` meets its contract. Assumes nothing.
 use Rattle.buffer_pool.proofs.DecidingLaws.{overflow_short, overflow_fits, overflow_end}
-use borrow.Author.Rules.{rules}
 use Rattle.buffer_pool.proofs.placing.finish_in_overflow.Goals as goal
 
 pub returns-then-not-in_bounds : goal.returns-then-not-in_bounds

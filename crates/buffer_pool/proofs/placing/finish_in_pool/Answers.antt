@@ -1,6 +1,5 @@
 -- `placing::finish_in_pool` meets its contract. Assumes nothing.
 use Rattle.buffer_pool.proofs.DecidingLaws.{finished_in_pool}
-use borrow.Author.Rules.{rules}
 use Rattle.buffer_pool.proofs.placing.finish_in_pool.Goals as goal
 
 pub returns : goal.returns

@@ -1,6 +1,5 @@
 -- `placing::go_out` meets its contract. Assumes nothing.
 use Rattle.buffer_pool.proofs.LayerLaws.{gone_out_lem}
-use borrow.Author.Rules.{rules}
 use Rattle.buffer_pool.proofs.placing.go_out.Goals as goal
 
 pub returns : goal.returns

@@ -1,6 +1,5 @@
 -- `placing::keeps` meets its contract. Assumes nothing.
 use Rattle.buffer_pool.proofs.Unmoved.{keeps_staying, head_free, tail_decides}
-use borrow.Author.Rules.{rules}
 use Rattle.buffer_pool.proofs.placing.keeps.Goals as goal
 
 pub returns-then-stays : goal.returns-then-stays

@@ -1,6 +1,5 @@
 -- `placing::reset_in_overflow` meets its contract. Assumes nothing.
 use Rattle.buffer_pool.proofs.ResetLaws.{reset_stays, reset_empty, reset_brings}
-use borrow.Author.Rules.{rules}
 use Rattle.buffer_pool.proofs.placing.reset_in_overflow.Goals as goal
 
 pub returns-then-n-cursor : goal.returns-then-n-cursor

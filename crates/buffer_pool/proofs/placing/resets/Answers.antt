@@ -1,6 +1,5 @@
 -- `placing::resets` meets its contract. Assumes nothing.
 use Rattle.buffer_pool.proofs.ResetLaws.{resets_live, resets_back, resets_not_back, resets_not_front, resets_empty}
-use borrow.Author.Rules.{rules}
 use Rattle.buffer_pool.proofs.placing.resets.Goals as goal
 
 pub returns-then-n-ne0 : goal.returns-then-n-ne0

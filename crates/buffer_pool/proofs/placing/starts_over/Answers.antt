@@ -1,6 +1,5 @@
 -- `placing::starts_over` meets its contract. Assumes nothing.
 use Rattle.buffer_pool.proofs.Unmoved.{no_reset, some_frame, over_back, over_front, over_alloc}
-use borrow.Author.Rules.{rules}
 use Rattle.buffer_pool.proofs.placing.starts_over.Goals as goal
 
 pub returns-then-not-resets : goal.returns-then-not-resets

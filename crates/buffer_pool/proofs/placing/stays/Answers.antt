@@ -1,6 +1,5 @@
 -- `placing::stays` meets its contract. Assumes nothing.
 use Rattle.buffer_pool.proofs.DecidingLaws.{stays_with_frame, stays_without_back, stays_by_tail}
-use borrow.Author.Rules.{rules}
 use Rattle.buffer_pool.proofs.placing.stays.Goals as goal
 
 pub returns-then-n-gt0 : goal.returns-then-n-gt0

@@ -1,6 +1,5 @@
 -- `pool_back::back_fits` meets its contract. Assumes nothing.
 use Rattle.buffer_pool.proofs.LayerLaws.{no_bytes, bytes_left}
-use borrow.Author.Rules.{rules}
 use Rattle.buffer_pool.proofs.pool_back.back_fits.Goals as goal
 
 pub returns-then-not-in_bounds : goal.returns-then-not-in_bounds

@@ -1,6 +1,5 @@
 -- `pool_back::element_to_drop` meets its contract. Assumes nothing.
 use Rattle.buffer_pool.proofs.BackLaws.{drops_back, drops_zeros}
-use borrow.Author.Rules.{rules}
 use Rattle.buffer_pool.proofs.pool_back.element_to_drop.Goals as goal
 
 pub returns-then-element_in_back-trailing_0 : goal.returns-then-element_in_back-trailing_0

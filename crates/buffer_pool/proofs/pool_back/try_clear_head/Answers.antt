@@ -1,6 +1,5 @@
 -- `pool_back::try_clear_head` meets its contract. Assumes nothing.
 use Rattle.buffer_pool.proofs.BackLaws.{no_head, all_free, head_short, head_cleared_lem}
-use borrow.Author.Rules.{rules}
 use Rattle.buffer_pool.proofs.pool_back.try_clear_head.Goals as goal
 
 pub returns-then-front_slots-lt1 : goal.returns-then-front_slots-lt1

@@ -1,6 +1,5 @@
 -- `pool_front::front_fits` meets its contract. Assumes nothing.
 use Rattle.buffer_pool.proofs.FrontLaws.{no_slot, slot_left}
-use borrow.Author.Rules.{rules}
 use Rattle.buffer_pool.proofs.pool_front.front_fits.Goals as goal
 
 pub returns-then-f : goal.returns-then-f

@@ -1,6 +1,5 @@
 -- `route::copy_into_buffer` meets its contract. Assumes nothing.
 use Rattle.buffer_pool.proofs.RouteLaws.{copies_out}
-use borrow.Author.Rules.{rules}
 use Rattle.buffer_pool.proofs.route.copy_into_buffer.Goals as goal
 
 pub returns : goal.returns

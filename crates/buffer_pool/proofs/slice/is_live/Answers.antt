@@ -1,6 +1,5 @@
 -- `slice::is_live` meets its contract. Assumes nothing.
 use Rattle.laws.proofs.Slots.{live_test}
-use borrow.Author.Rules.{rules}
 use Rattle.buffer_pool.proofs.slice.is_live.Goals as goal
 
 pub returns : goal.returns

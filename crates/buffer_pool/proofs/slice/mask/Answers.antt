@@ -1,6 +1,5 @@
 -- `slice::mask` meets its contract. Assumes nothing.
 use Rattle.laws.proofs.Words.{mask_wide}
-use borrow.Author.Rules.{rules}
 use Rattle.buffer_pool.proofs.slice.mask.Goals as goal
 
 pub returns : goal.returns

@@ -1,6 +1,5 @@
 -- `slice::release` meets its contract. Assumes nothing.
 use Rattle.laws.proofs.Words.{released_wide}
-use borrow.Author.Rules.{rules}
 use Rattle.buffer_pool.proofs.slice.release.Goals as goal
 
 pub returns : goal.returns

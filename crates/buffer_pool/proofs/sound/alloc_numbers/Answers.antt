@@ -2,7 +2,6 @@
 use Rattle.buffer_pool.proofs.SoundTestLaws.{overflow_within}
 use Rattle.buffer_pool.specs.Soundness.{alloc_sound}
 use borrow.Author.Tests.{eq-eqb, ne_eqb}
-use borrow.Author.Rules.{rules}
 use Rattle.buffer_pool.proofs.sound.alloc_numbers.Goals as goal
 
 pub returns-then-n-ne0 : goal.returns-then-n-ne0

@@ -1,7 +1,6 @@
 -- `sound::back_numbers` meets its contract. Assumes nothing.
 use Rattle.buffer_pool.specs.Soundness.{back_numbers}
 use borrow.Author.Tests.{eq-eqb, ne_eqb}
-use borrow.Author.Rules.{rules}
 use Rattle.buffer_pool.proofs.sound.back_numbers.Goals as goal
 
 pub returns-then-n-last : goal.returns-then-n-last

@@ -2,7 +2,6 @@
 use borrow.Author.Tests.{le-ltb}
 use Rattle.buffer_pool.specs.SlotPass.{is_back_within}
 use Rattle.buffer_pool.proofs.SoundTestLaws.{back_slots}
-use borrow.Author.Rules.{rules}
 use Rattle.buffer_pool.proofs.sound.counted.Goals as goal
 
 pub returns-then-n : goal.returns-then-n

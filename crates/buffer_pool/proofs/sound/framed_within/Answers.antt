@@ -1,6 +1,5 @@
 -- `sound::framed_within` meets its contract. Assumes nothing.
 use Rattle.buffer_pool.proofs.SoundTestLaws.{frame_past, frame_slot, frame_some, frame_none}
-use borrow.Author.Rules.{rules}
 use Rattle.buffer_pool.proofs.sound.framed_within.Goals as goal
 
 pub returns-then-not-in_bounds : goal.returns-then-not-in_bounds

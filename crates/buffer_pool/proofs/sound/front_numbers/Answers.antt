@@ -1,7 +1,6 @@
 -- `sound::front_numbers` meets its contract. Assumes nothing.
 use borrow.Author.Tests.{lt-leb, le-leb, eq-eqb, ne_eqb}
 use Rattle.buffer_pool.specs.SlotPass.{front_counts}
-use borrow.Author.Rules.{rules}
 use Rattle.buffer_pool.proofs.sound.front_numbers.Goals as goal
 
 pub returns-then-n : goal.returns-then-n

@@ -1,6 +1,5 @@
 -- `sound::front_sound` meets its contract. Assumes nothing.
 use Rattle.buffer_pool.proofs.SoundTestLaws.{numbers_most, numbers_word, numbers_some, numbers_fronts, numbers_fail, own_back, own_front, own_alloc}
-use borrow.Author.Rules.{rules}
 use Rattle.buffer_pool.proofs.sound.front_sound.Goals as goal
 
 pub returns-then-not-sound : goal.returns-then-not-sound

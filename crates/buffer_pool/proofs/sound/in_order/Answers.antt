@@ -1,9 +1,6 @@
 -- `sound::in_order` meets its contract. The slots from index i on are left to pass, with their bits at the top of the word, after a live
 -- slot that ends at end. Assumes nothing.
 use borrow.Author.Rules.{rules}
-use mathlib.Core.Path.{◌≡◌}
-use Prim.Native.Nat.{◌-◌}
-use Rattle.buffer_pool.specs.SlotPass.{ordered, bits_after}
 use Rattle.buffer_pool.proofs.SlotPassLaws.{all_passed, run_begins, run_decides, next_on, fewer_runs, bits_on, run_on}
 use Rattle.buffer_pool.proofs.sound.in_order.Goals as goal
 

@@ -1,8 +1,6 @@
-use borrow.Author.Rules.{rules}
 use mathlib.Core.Path.{◌≡◌}
 use Prim.Native.Nat.{◌-◌}
 use Rattle.buffer_pool.specs.SlotPass.{ordered, bits_after}
-use Rattle.buffer_pool.proofs.SlotPassLaws.{all_passed, run_begins, run_decides, next_on, fewer_runs, bits_on, run_on}
 use Rattle.buffer_pool.proofs.sound.in_order.Given as goal
 
 abbrev pub invariant-loop-word : goal.invariant-loop-word

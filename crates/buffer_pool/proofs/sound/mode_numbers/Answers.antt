@@ -1,6 +1,5 @@
 -- `sound::mode_numbers` meets its contract. Assumes nothing.
 use Rattle.buffer_pool.proofs.SoundTestLaws.{numbers_back, numbers_front, numbers_alloc}
-use borrow.Author.Rules.{rules}
 use Rattle.buffer_pool.proofs.sound.mode_numbers.Goals as goal
 
 pub returns-in-Back : goal.returns-in-Back

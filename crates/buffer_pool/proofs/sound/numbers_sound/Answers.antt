@@ -1,6 +1,5 @@
 -- `sound::numbers_sound` meets its contract. Assumes nothing.
 use Rattle.buffer_pool.proofs.SoundTestLaws.{counted_within, not_worded, not_counted, mode_decides}
-use borrow.Author.Rules.{rules}
 use Rattle.buffer_pool.proofs.sound.numbers_sound.Goals as goal
 
 pub returns-then-not-shaped : goal.returns-then-not-shaped

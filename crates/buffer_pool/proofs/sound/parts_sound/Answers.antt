@@ -1,6 +1,5 @@
 -- `sound::parts_sound` meets its contract. Assumes nothing.
 use Rattle.buffer_pool.proofs.SoundTestLaws.{front_most, front_word, front_ends, front_first, front_fails, slots_last}
-use borrow.Author.Rules.{rules}
 use Rattle.buffer_pool.proofs.sound.parts_sound.Goals as goal
 
 pub returns-then-not-front_sound : goal.returns-then-not-front_sound

@@ -1,8 +1,6 @@
 -- `sound::run` meets its contract. The slots up to index i are passed, and the bits of those from there on are at the top of the word.
 -- Assumes nothing.
 use borrow.Author.Rules.{rules}
-use Prim.Native.Nat.{◌-◌}
-use Rattle.buffer_pool.specs.SlotPass.{Passed}
 use Rattle.buffer_pool.proofs.SlotPassLaws.{none_passed, index_within, index_bytes, index_on, fewer_left, empty_fails, early_fails, live_passed, run_passes}
 use Rattle.buffer_pool.proofs.sound.run.Goals as goal
 

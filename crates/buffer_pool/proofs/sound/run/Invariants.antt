@@ -1,7 +1,5 @@
-use borrow.Author.Rules.{rules}
 use Prim.Native.Nat.{◌-◌}
 use Rattle.buffer_pool.specs.SlotPass.{Passed}
-use Rattle.buffer_pool.proofs.SlotPassLaws.{none_passed, index_within, index_bytes, index_on, fewer_left, empty_fails, early_fails, live_passed, run_passes}
 use Rattle.buffer_pool.proofs.sound.run.Given as goal
 
 abbrev pub invariant-loop-word : goal.invariant-loop-word

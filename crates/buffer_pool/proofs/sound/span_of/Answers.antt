@@ -1,6 +1,5 @@
 -- `sound::span_of` meets its contract. Assumes nothing.
 use Rattle.buffer_pool.proofs.SoundTestLaws.{span_back, span_front, span_alloc}
-use borrow.Author.Rules.{rules}
 use Rattle.buffer_pool.proofs.sound.span_of.Goals as goal
 
 pub returns-in-Back : goal.returns-in-Back

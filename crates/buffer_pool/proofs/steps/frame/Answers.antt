@@ -1,6 +1,5 @@
 -- `steps::frame` meets its contract. Assumes nothing.
 use Rattle.buffer_pool.proofs.StepLaws.{frame_back, frame_front, frame_alloc}
-use borrow.Author.Rules.{rules}
 use Rattle.buffer_pool.proofs.steps.frame.Goals as goal
 
 pub returns-in-Back : goal.returns-in-Back

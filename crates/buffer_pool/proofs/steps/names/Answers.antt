@@ -1,6 +1,5 @@
 -- `steps::names` meets its contract. Assumes nothing.
 use Rattle.buffer_pool.proofs.StepLaws.{slot_zero, slot_past, slot_free, start_differs, length_differs, serial_differs, caller_differs, caller_decides}
-use borrow.Author.Rules.{rules}
 use Rattle.buffer_pool.proofs.steps.names.Goals as goal
 
 pub returns-then-slot-lt1 : goal.returns-then-slot-lt1

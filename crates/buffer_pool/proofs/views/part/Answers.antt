@@ -1,7 +1,6 @@
 -- `views::part` meets its contract. Assumes nothing.
 use mathlib.Core.Path.{refl}
 use Rattle.buffer_pool.proofs.ViewLaws.{part_as}
-use borrow.Author.Rules.{rules}
 use Rattle.buffer_pool.proofs.views.part.Goals as goal
 
 pub returns : goal.returns

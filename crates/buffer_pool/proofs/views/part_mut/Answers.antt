@@ -1,7 +1,6 @@
 -- `views::part_mut` meets its contract. Assumes nothing.
 use mathlib.Core.Path.{refl}
 use Rattle.buffer_pool.proofs.ViewLaws.{part_as}
-use borrow.Author.Rules.{rules}
 use Rattle.buffer_pool.proofs.views.part_mut.Goals as goal
 
 pub returns : goal.returns

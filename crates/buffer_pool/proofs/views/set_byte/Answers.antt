@@ -1,6 +1,5 @@
 -- `views::set_byte` meets its contract. Assumes nothing.
 use Rattle.buffer_pool.proofs.ViewLaws.{byte_past, byte_set}
-use borrow.Author.Rules.{rules}
 use Rattle.buffer_pool.proofs.views.set_byte.Goals as goal
 
 pub returns-then-place-index : goal.returns-then-place-index

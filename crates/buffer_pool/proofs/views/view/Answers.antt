@@ -1,6 +1,5 @@
 -- `views::view` meets its contract. Assumes nothing.
 use Rattle.buffer_pool.proofs.ViewLaws.{lies_pool, bytes_pool, pointer_pool, lies_overflow, bytes_overflow, pointer_overflow}
-use borrow.Author.Rules.{rules}
 use Rattle.buffer_pool.proofs.views.view.Goals as goal
 
 pub part-requires : goal.part-requires

@@ -1,6 +1,5 @@
 -- `views::view_mut` meets its contract. Assumes nothing.
 use Rattle.buffer_pool.proofs.ViewLaws.{lies_pool, bytes_pool, pointer_pool, lies_overflow, bytes_overflow, pointer_overflow}
-use borrow.Author.Rules.{rules}
 use Rattle.buffer_pool.proofs.views.view_mut.Goals as goal
 
 pub part_mut-requires : goal.part_mut-requires

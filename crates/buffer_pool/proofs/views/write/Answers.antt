@@ -1,6 +1,5 @@
 -- `views::write` meets its contract. Assumes nothing.
 use Rattle.buffer_pool.proofs.ViewLaws.{lies_pool, lies_overflow, written_pool, written_overflow}
-use borrow.Author.Rules.{rules}
 use Rattle.buffer_pool.proofs.views.write.Goals as goal
 
 pub set_byte-requires : goal.set_byte-requires

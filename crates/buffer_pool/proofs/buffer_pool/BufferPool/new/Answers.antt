@@ -1,6 +1,5 @@
 -- `BufferPool::new` meets its contract. Assumes nothing.
 use Rattle.buffer_pool.proofs.CallLaws.{new_other_count, new_pool_long, new_overflow_long, new_done_lem}
-use borrow.Author.Rules.{rules}
 use Rattle.buffer_pool.proofs.buffer_pool.BufferPool.new.Goals as goal
 
 pub returns-then-not-is_count : goal.returns-then-not-is_count

@@ -1,6 +1,5 @@
 -- `buffer_pool::BufferPool::release` meets its contract. Assumes nothing.
 use Rattle.buffer_pool.proofs.LentLaws.{release_called}
-use borrow.Author.Rules.{rules}
 use Rattle.buffer_pool.proofs.buffer_pool.BufferPool.release.Goals as goal
 
 pub returns : goal.returns

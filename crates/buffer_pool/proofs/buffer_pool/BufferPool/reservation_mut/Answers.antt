@@ -1,7 +1,6 @@
 -- `buffer_pool::BufferPool::reservation_mut` meets its contract. Assumes nothing.
 use Rattle.buffer_pool.proofs.ViewPlaces.{reservation_lies}
 use Rattle.buffer_pool.proofs.ViewLaws.{bytes_there, pointer_there}
-use borrow.Author.Rules.{rules}
 use Rattle.buffer_pool.proofs.buffer_pool.BufferPool.reservation_mut.Goals as goal
 
 pub view_mut-requires : goal.view_mut-requires

@@ -1,6 +1,5 @@
 -- `buffer_pool::BufferPool::slice` meets its contract. Assumes nothing.
 use Rattle.buffer_pool.proofs.ViewLaws.{slice_within, slice_bytes, slice_pointer}
-use borrow.Author.Rules.{rules}
 use Rattle.buffer_pool.proofs.buffer_pool.BufferPool.slice.Goals as goal
 
 pub part-requires : goal.part-requires

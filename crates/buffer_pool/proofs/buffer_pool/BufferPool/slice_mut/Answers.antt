@@ -1,6 +1,5 @@
 -- `buffer_pool::BufferPool::slice_mut` meets its contract. Assumes nothing.
 use Rattle.buffer_pool.proofs.ViewLaws.{slice_within, slice_bytes, slice_pointer}
-use borrow.Author.Rules.{rules}
 use Rattle.buffer_pool.proofs.buffer_pool.BufferPool.slice_mut.Goals as goal
 
 pub part_mut-requires : goal.part_mut-requires

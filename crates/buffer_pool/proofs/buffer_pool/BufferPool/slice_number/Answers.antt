@@ -1,6 +1,5 @@
 -- `buffer_pool::BufferPool::slice_number` meets its contract. Assumes nothing.
 use Rattle.buffer_pool.proofs.ViewLaws.{number_there}
-use borrow.Author.Rules.{rules}
 use Rattle.buffer_pool.proofs.buffer_pool.BufferPool.slice_number.Goals as goal
 
 pub returns : goal.returns

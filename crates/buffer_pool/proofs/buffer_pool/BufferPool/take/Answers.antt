@@ -1,6 +1,5 @@
 -- `buffer_pool::BufferPool::take` meets its contract. Assumes nothing.
 use Rattle.buffer_pool.proofs.TakeLaws.{take_called}
-use borrow.Author.Rules.{rules}
 use Rattle.buffer_pool.proofs.buffer_pool.BufferPool.take.Goals as goal
 
 pub returns : goal.returns

@@ -1,7 +1,6 @@
 -- `buffer_pool::BufferPool::write_frame` meets its contract. Assumes nothing.
 use Rattle.buffer_pool.proofs.ViewPlaces.{frame_lies}
 use Rattle.buffer_pool.proofs.ViewLaws.{number_there, written_there}
-use borrow.Author.Rules.{rules}
 use Rattle.buffer_pool.proofs.buffer_pool.BufferPool.write_frame.Goals as goal
 
 pub write-requires : goal.write-requires

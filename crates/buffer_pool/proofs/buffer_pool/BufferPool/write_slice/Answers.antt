@@ -1,6 +1,5 @@
 -- `buffer_pool::BufferPool::write_slice` meets its contract. Assumes nothing.
 use Rattle.buffer_pool.proofs.ViewLaws.{slice_within, number_there, slice_written}
-use borrow.Author.Rules.{rules}
 use Rattle.buffer_pool.proofs.buffer_pool.BufferPool.write_slice.Goals as goal
 
 pub set_byte-requires : goal.set_byte-requires

@@ -1,6 +1,5 @@
 -- `numbers::Numbers::commit` meets its contract. Assumes nothing.
 use Rattle.buffer_pool.proofs.LentLaws.{commit_turned, commit_refused, commit_fits, commit_done}
-use borrow.Author.Rules.{rules}
 use Rattle.buffer_pool.proofs.numbers.Numbers.commit.Goals as goal
 
 pub returns-then-number-ne0 : goal.returns-then-number-ne0

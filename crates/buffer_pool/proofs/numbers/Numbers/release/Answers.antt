@@ -1,6 +1,5 @@
 -- `numbers::Numbers::release` meets its contract. Assumes nothing.
 use Rattle.buffer_pool.proofs.LentLaws.{few_slots, live_fits, named_one, named_most, release_turned, release_refused, release_done}
-use borrow.Author.Rules.{rules}
 use Rattle.buffer_pool.proofs.numbers.Numbers.release.Goals as goal
 
 pub returns-then-number-ne0 : goal.returns-then-number-ne0

@@ -1,6 +1,5 @@
 -- `numbers::Numbers::reservation_view` meets its contract. Assumes nothing.
 use Rattle.buffer_pool.proofs.LentLaws.{reservation_hidden, reservation_start, reservation_shown}
-use borrow.Author.Rules.{rules}
 use Rattle.buffer_pool.proofs.numbers.Numbers.reservation_view.Goals as goal
 
 pub returns-then-number-ne0 : goal.returns-then-number-ne0

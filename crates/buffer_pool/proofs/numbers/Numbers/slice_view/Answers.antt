@@ -1,6 +1,5 @@
 -- `numbers::Numbers::slice_view` meets its contract. Assumes nothing.
 use Rattle.buffer_pool.proofs.LentLaws.{few_slots, slice_hidden, slice_unnamed, slice_shown}
-use borrow.Author.Rules.{rules}
 use Rattle.buffer_pool.proofs.numbers.Numbers.slice_view.Goals as goal
 
 pub returns-then-number-ne0 : goal.returns-then-number-ne0

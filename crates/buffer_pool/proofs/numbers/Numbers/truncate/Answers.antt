@@ -1,6 +1,5 @@
 -- `numbers::Numbers::truncate` meets its contract. Assumes nothing.
 use Rattle.buffer_pool.proofs.LentLaws.{truncate_turned, truncate_cuts, truncate_keeps}
-use borrow.Author.Rules.{rules}
 use Rattle.buffer_pool.proofs.numbers.Numbers.truncate.Goals as goal
 
 pub returns-then-number-ne0 : goal.returns-then-number-ne0

@@ -1,6 +1,5 @@
 -- `route::Route::on` meets its contract. Assumes nothing.
 use Rattle.buffer_pool.proofs.RouteLaws.{onward_first, onward_second}
-use borrow.Author.Rules.{rules}
 use Rattle.buffer_pool.proofs.route.Route.on.Goals as goal
 
 pub returns-then-changes-eq0 : goal.returns-then-changes-eq0
