@@ -1,6 +1,5 @@
 -- Record, memories and book agree, and go on agreeing after every entry: a reserve by `place_carries`, the other calls by
 -- what they do to frame and slots, a write because no two of frame, reservation and live slices meet. Assumes nothing.
-use denote.Slice.{shr_slice_at}
 use mathlib.Core.Path.{◌≡◌, refl, sym, ap, ◌∙◌, subst}
 use mathlib.Core.Bool.{Bool, true, false}
 use mathlib.Core.Logic.{◌≢◌}

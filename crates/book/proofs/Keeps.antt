@@ -20,7 +20,7 @@ use Rattle.buffer_pool.specs.declared.buffer_pool.PoolMode.TheVariants.{Back, Fr
 use Rattle.buffer_pool.specs.declared.slice.Handle.{Handle}
 use Rattle.buffer_pool.specs.Record.{byte_limit, caller_count}
 use Rattle.buffer_pool.specs.Moves.{Memories}
-use Rattle.buffer_pool.specs.Soundness.{is_slot_count, sound}
+use Rattle.buffer_pool.specs.Soundness.{is_slot_count}
 use Rattle.buffer_pool.specs.Sound.{InMode, Orderly}
 use Rattle.buffer_pool.specs.Values.{no_place, no_handle, Values, valued, refusal, values}
 use Rattle.buffer_pool.specs.Steps.{frame_of, frame, most_serials, given_to, take_on, take_step}

@@ -4,7 +4,7 @@ use mathlib.Core.Path.{◌≡◌, refl, sym, ap, ◌∙◌, subst}
 use mathlib.Core.Bool.{Bool, true, false}
 use mathlib.Core.List.{List, [], ◌∷◌, map}
 use mathlib.Core.Logic.{◌≢◌, inl, inr}
-use Prim.Native.Nat.{ℕ, suc, ◌-◌, ◌≤◌, ◌<◌}
+use Prim.Native.Nat.{ℕ, suc, ◌≤◌, ◌<◌}
 use native.Mathlib.Decide.{ℕ_discrete}
 use lib.ListN.{length, set}
 use Rattle.laws.specs.Tests.{pick}
@@ -28,10 +28,12 @@ use Rattle.book.proofs.Slices.{same_is, same_self}
 -- ---- Pairs
 
 pub member_map : (f : Pair → Pair) (pairs : List Pair) (y : Pair) → Member y (map f pairs) → (x : Pair) × Member x pairs × (y ≡ f x)
+member_map f [] y i = elim i [ ]
 member_map f (x ∷ pairs) y (inl e) = (x, inl refl, e)
 member_map f (x ∷ pairs) y (inr i) = let t = member_map f pairs y i in (t.0, inr t.1, t.2)
 
 map_member : (f : Pair → Pair) (pairs : List Pair) (x : Pair) → Member x pairs → Member (f x) (map f pairs)
+map_member f [] x i = elim i [ ]
 map_member f (y ∷ pairs) x (inl e) = inl (ap f e)
 map_member f (y ∷ pairs) x (inr i) = inr (map_member f pairs x i)
 
@@ -51,6 +53,7 @@ without_member h (x ∷ pairs) y = go (same_handle x.handle h) refl (without_mem
 member_without : (h : Handle) (pairs : List Pair) (y : Pair) → Member y pairs → same_handle y.handle h ≡ false
     → Member y (without h pairs)
 unfolding without
+member_without h [] y i e = elim i [ ]
 member_without h (x ∷ pairs) y i e = go (same_handle x.handle h) refl i (λ j. member_without h pairs y j e)
   where
     go : (t : Bool) → same_handle x.handle h ≡ t → Member y (x ∷ pairs) → (Member y pairs → Member y (without h pairs))

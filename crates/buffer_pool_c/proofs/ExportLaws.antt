@@ -44,10 +44,7 @@ use Rattle.buffer_pool_c.specs.Results.{reserve_result, place_result, take_resul
 use Rattle.buffer_pool_c.specs.Exports.{left, seen, exported, reserve, commit, truncate, take, release, newly, new, exported_view, frame, reservation, slice}
 use Rattle.buffer_pool_c.proofs.RecordLaws.{left_live, left_mode, rest_held, filled_known, slots_none, record_stored, front_stored}
 use Rattle.buffer_pool_c.proofs.ResultLaws.{released_in_bytes, viewed_in_bytes}
-use Rattle.buffer_pool_c.proofs.Behind.{with_field}
-use Rattle.buffer_pool_c.proofs.Stores.{renumbered, cleared}
-use Rattle.buffer_pool_c.proofs.Elements.{entered}
-use Rattle.buffer_pool_c.proofs.Resized.{after}
+use Rattle.buffer_pool_c.proofs.Stored.{after, renumbered, cleared, entered}
 
 -- ---- A slot count of 0 is no pool's: refused with 1
 
@@ -119,14 +116,14 @@ Frees n starts lengths serials callers m k c =
     (given : List ℕ) → length given ≡ caller_count → Releases (filled n starts lengths (record { serials = serials; callers = callers; given = given })) (calls.release n.slots (filled n starts lengths (record { serials = serials; callers = callers; given = given })) m k) c
 
 module _ (h : Record) (whole : Whole (rest_held h)) (m : Memories) (n : Numbers) (e : n ≡ numbers_of h) (a : Handle) (k : pool.Handle) (i : k ≡ named (in_bytes a)) (c : Releasing) where
-  pub release_as : Frees n h.starts h.lengths h.serials h.callers m k c → (l : ℕ) → l ≡ live_after h.live c.live c.number → left c.number (with_field 8 l h) m [] ≡ release h m a
+  pub release_as : Frees n h.starts h.lengths h.serials h.callers m k c → (l : ℕ) → l ≡ live_after h.live c.live c.number → left c.number (record h { live = l }) m [] ≡ release h m a
   unfolding release calls.release call number_of refusal
   release_as says l j = go (known h) refl
     where
       p : Releases (filled (numbers_of h) h.starts h.lengths (rest_held h)) (calls.release (numbers_of h).slots (filled (numbers_of h) h.starts h.lengths (rest_held h)) m (named (in_bytes a))) c
       p = subst (λ (x : Numbers). Frees x h.starts h.lengths h.serials h.callers m (named (in_bytes a)) c) e (subst (λ (x : pool.Handle). Frees n h.starts h.lengths h.serials h.callers m x c) i says) h.given whole.given_all
 
-      go : (b : Bool) → known h ≡ b → left c.number (with_field 8 l h) m [] ≡ pick b (seen refusal_result h (calls.release h.slots (pool_of h) m (named a))) (left 1 h m [])
+      go : (b : Bool) → known h ≡ b → left c.number (record h { live = l }) m [] ≡ pick b (seen refusal_result h (calls.release h.slots (pool_of h) m (named a))) (left 1 h m [])
       go true t =
           let q = subst (λ (o : Outcome). Releases (pool_of h) o c) (released_in_bytes h.slots (pool_of h) m a) (subst (λ (x : BufferPool). Releases x (calls.release x.slots x m (named (in_bytes a))) c) (filled_known h t) p) in
           let s = guarded_same h.slots (pool_of h) m (release_step h.slots (pool_of h) (named a)) in

@@ -1,14 +1,5 @@
 pub mod RecordLaws
 pub mod ResultLaws
-pub mod Behind
-pub mod Values
-pub mod Arrays
-pub mod Contract
-pub mod Calls
-pub mod Stores
-pub mod Elements
-pub mod Resized
-pub mod Viewed
-pub mod Callees
+pub mod Stored
 pub mod ExportLaws
 pub mod RefusedKeeps
