@@ -4,7 +4,7 @@
 
 ghost use Rattle.io.specs.Counts.{IsPrefixLen};
 
-use libc::{STDERR_FILENO, STDIN_FILENO, STDOUT_FILENO};
+use std::io::{Read, Write};
 
 // What reading gave: so many bytes, and whether a read then failed.
 #[derive(Clone, Copy)]
@@ -13,21 +13,27 @@ struct Input {
     failed: bool,
 }
 
-// Reads standard input into `file`, until the input ends, `file` is full or a read fails.
-fn read_input(file: &mut [u8]) -> Input
+// Reads into `file`, until the input ends, `file` is full or a read fails.
+fn read_input<R: Read>(input: &mut R, file: &mut [u8]) -> Input
     ensures { IsPrefixLen result.length file.new }
 {
     let mut at = 0;
     while at < file.len() {
-        let got = libc::read(STDIN_FILENO, &mut file[at..]);
-        let n = io::count(got, &file[at..]);
-        if n == 0 {
-            return Input {
-                length: at,
-                failed: got < 0,
-            };
+        match input.read(&mut file[at..]) {
+            Ok(0) => {
+                return Input {
+                    length: at,
+                    failed: false,
+                };
+            }
+            Ok(n) => at += n,
+            Err(_) => {
+                return Input {
+                    length: at,
+                    failed: true,
+                };
+            }
         }
-        at += n;
     }
     Input {
         length: at,
@@ -35,25 +41,30 @@ fn read_input(file: &mut [u8]) -> Input
     }
 }
 
-fn main() {
+// Says what failed; where standard error cannot be written either, nobody is told.
+fn complain<W: Write>(errors: &mut W, message: &[u8]) {
+    match errors.write_all(message) {
+        Ok(_) => {}
+        Err(_) => {}
+    }
+}
+
+fn main(rt: HostRuntime) {
     // one byte more than a trace may have, so that a longer file is seen to be one
     let mut file = [0u8; trace::FILE_LIMIT + 1];
-    let input = read_input(&mut file);
+    let mut stdin = rt.stdin();
+    let input = read_input(&mut stdin, &mut file);
+    let mut errors = rt.stderr();
     if input.failed {
-        io::write_all(
-            STDERR_FILENO,
-            b"poolreplay: standard input cannot be read\n",
-        );
+        complain(&mut errors, b"poolreplay: standard input cannot be read\n");
         return;
     }
 
     let mut out = [0u8; replay::LISTING_LIMIT];
     let n = input.length;
     let k = replay::replay_whole(&file[..n], &mut out);
-    if !io::write_all(STDOUT_FILENO, &out[..k]) {
-        io::write_all(
-            STDERR_FILENO,
-            b"poolreplay: standard output cannot be written\n",
-        );
+    let mut stdout = rt.stdout();
+    if stdout.write_all(&out[..k]).is_err() {
+        complain(&mut errors, b"poolreplay: standard output cannot be written\n");
     }
 }
