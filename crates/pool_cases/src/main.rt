@@ -3,10 +3,11 @@
 #![tactic(auto)]
 
 ghost use Rattle.std.specs.Prelude.{◌≡◌, ◌≤◌, ◌<◌, length};
+ghost use Rattle.io.specs.Counts.{IsPrefixLen};
 
 use buffer_pool::buffer_pool::{Answer, BufferPool, Called, PoolMode};
 use buffer_pool::slice::Handle;
-use libc::{STDIN_FILENO, STDOUT_FILENO};
+use std::io::{Read, Write};
 
 // One byte at `at`, where there is room. Each `put` gives the place after what it put.
 fn put(out: &mut [u8], at: usize, b: u8) -> usize {
@@ -474,10 +475,18 @@ fn run_event(
     write_slice(p, pool, overflow, e)
 }
 
+// Prints these bytes; where they cannot be written, nobody is told.
+fn print_all<W: Write>(to: &mut W, bytes: &[u8]) {
+    match to.write_all(bytes) {
+        Ok(_) => {}
+        Err(_) => {}
+    }
+}
+
 // Prints the first `k` bytes of a line, where it has so many.
-fn print(out: &[u8], k: usize) {
+fn print<W: Write>(to: &mut W, out: &[u8], k: usize) {
     if k <= out.len() {
-        io::write_all(STDOUT_FILENO, &out[..k]);
+        print_all(to, &out[..k]);
     }
 }
 
@@ -513,7 +522,8 @@ fn put_rest<'a>(
 }
 
 // Prints the line of an event.
-fn print_event<'a>(
+fn print_event<'a, W: Write>(
+    to: &mut W,
     number: u64,
     kind: u64,
     r: Ran,
@@ -528,26 +538,27 @@ fn print_event<'a>(
     k = put_numbers(&mut out, k, p, kind, told);
     k = put_rest(&mut out, k, p, pool, overflow, destination, r.copied);
     k = put(&mut out, k, b'\n');
-    print(&out, k);
+    print(to, &out, k);
 }
 
 // Prints the line of a list's sizes.
-fn print_sizes(capacity: u64, overflow: u64) {
+fn print_sizes<W: Write>(to: &mut W, capacity: u64, overflow: u64) {
     let mut out = [0u8; 64];
     let mut k = put(&mut out, 0, b'p');
     k = put(&mut out, k, b'o');
     k = put(&mut out, k, b'o');
     k = put(&mut out, k, b'l');
     k = put_number(&mut out, k, capacity);
-    print(&out, k);
-    io::write_all(STDOUT_FILENO, b" overflow");
+    print(to, &out, k);
+    print_all(to, b" overflow");
     k = put_number(&mut out, 0, overflow);
     k = put(&mut out, k, b'\n');
-    print(&out, k);
+    print(to, &out, k);
 }
 
 // Runs the event at `at`, number `number` of its list, and prints its line; gives the record after it.
-fn turn(
+fn turn<W: Write>(
+    to: &mut W,
     file: &[u8],
     at: usize,
     number: u64,
@@ -558,12 +569,13 @@ fn turn(
 ) -> BufferPool {
     let e = event_at(file, at);
     let r = run_event(p, pool, overflow, destination, e);
-    print_event(number, e.kind, r, pool, overflow, destination);
+    print_event(to, number, e.kind, r, pool, overflow, destination);
     r.p
 }
 
 // Runs the events of a list, from its first at `at` on, on a new pool of 8 slots.
-fn run_events(
+fn run_events<W: Write>(
+    to: &mut W,
     file: &[u8],
     at: usize,
     count: u64,
@@ -577,7 +589,16 @@ fn run_events(
     let mut p = c.pool;
     let mut i = 0u64;
     while i < count {
-        p = turn(file, place_of(at, i), i + 1, p, pool, overflow, destination);
+        p = turn(
+            to,
+            file,
+            place_of(at, i),
+            i + 1,
+            p,
+            pool,
+            overflow,
+            destination,
+        );
         i += 1;
     }
 }
@@ -594,14 +615,21 @@ fn place_of(at: usize, i: u64) -> usize {
 }
 
 // One list: its sizes, then its events on memories of these sizes. Where the lent memories are shorter, no event is run.
-fn run_list(file: &[u8], at: usize, pool: &mut [u8], overflow: &mut [u8], destination: &mut [u8]) {
+fn run_list<W: Write>(
+    to: &mut W,
+    file: &[u8],
+    at: usize,
+    pool: &mut [u8],
+    overflow: &mut [u8],
+    destination: &mut [u8],
+) {
     if 100_000_000 < at {
         return;
     }
     let capacity = number_at(file, at) as usize;
     let length = number_at(file, at + 4) as usize;
     let count = number_at(file, at + 8);
-    print_sizes(capacity as u64, length as u64);
+    print_sizes(to, capacity as u64, length as u64);
     if pool.len() < capacity {
         return;
     }
@@ -609,6 +637,7 @@ fn run_list(file: &[u8], at: usize, pool: &mut [u8], overflow: &mut [u8], destin
         return;
     }
     run_events(
+        to,
         file,
         at + 12,
         count,
@@ -631,10 +660,17 @@ fn next_list(file: &[u8], at: usize) -> usize
 }
 
 // The lists of the first `n` bytes.
-fn run_lists(file: &[u8], n: usize, pool: &mut [u8], overflow: &mut [u8], destination: &mut [u8]) {
+fn run_lists<W: Write>(
+    to: &mut W,
+    file: &[u8],
+    n: usize,
+    pool: &mut [u8],
+    overflow: &mut [u8],
+    destination: &mut [u8],
+) {
     let mut at = 0;
     while at < n {
-        run_list(file, at, pool, overflow, destination);
+        run_list(to, file, at, pool, overflow, destination);
         if 100_000_000 < at {
             return;
         }
@@ -643,11 +679,11 @@ fn run_lists(file: &[u8], n: usize, pool: &mut [u8], overflow: &mut [u8], destin
 }
 
 // The lists of the first `n` bytes, in memories of 65,536 bytes.
-fn run(file: &[u8], n: usize) {
+fn run<W: Write>(to: &mut W, file: &[u8], n: usize) {
     let mut pool = io::large_buffer();
     let mut overflow = io::large_buffer();
     let mut destination = io::large_buffer();
-    run_lists(file, n, &mut pool, &mut overflow, &mut destination);
+    run_lists(to, file, n, &mut pool, &mut overflow, &mut destination);
 }
 
 // Room for standard input, all zeros.
@@ -657,8 +693,25 @@ fn input() -> [u8; 131072]
     [0; 131072]
 }
 
-fn main() {
+// Reads into `file`, until the input ends, `file` is full or a read fails; gives how many bytes it read.
+fn read_full<R: Read>(input: &mut R, file: &mut [u8]) -> usize
+    ensures { IsPrefixLen result file.new }
+{
+    let mut at = 0;
+    while at < file.len() {
+        match input.read(&mut file[at..]) {
+            Ok(0) => return at,
+            Ok(n) => at += n,
+            Err(_) => return at,
+        }
+    }
+    at
+}
+
+fn main(rt: HostRuntime) {
     let mut file = input();
-    let n = io::read_full(STDIN_FILENO, &mut file);
-    run(&file, n);
+    let mut stdin = rt.stdin();
+    let n = read_full(&mut stdin, &mut file);
+    let mut stdout = rt.stdout();
+    run(&mut stdout, &file, n);
 }
