@@ -65,6 +65,9 @@ fn main(rt: HostRuntime) {
     let k = replay::replay_whole(&file[..n], &mut out);
     let mut stdout = rt.stdout();
     if stdout.write_all(&out[..k]).is_err() {
-        complain(&mut errors, b"poolreplay: standard output cannot be written\n");
+        complain(
+            &mut errors,
+            b"poolreplay: standard output cannot be written\n",
+        );
     }
 }
