@@ -1,4 +1,4 @@
-//! Links the archive that `rt staticlib pool_bench` makes, from the folder of the port's archive.
+//! Links the archive that `tools/build pool_bench` makes, from the folder of the port's archive.
 
 use std::env;
 use std::path::PathBuf;

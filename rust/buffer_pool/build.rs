@@ -1,4 +1,4 @@
-//! Links the archive that `rt staticlib buffer_pool_c` makes. BUFFER_POOL_LIB names another folder
+//! Links the archive that `tools/build buffer_pool_c` makes. BUFFER_POOL_LIB names another folder
 //! that holds it.
 
 use std::env;
@@ -11,7 +11,7 @@ fn main() {
     println!("cargo::rerun-if-changed={}", archive.display());
     if !archive.exists() {
         println!(
-            "cargo::error={} is missing: run `rt staticlib buffer_pool_c` in the repository, \
+            "cargo::error={} is missing: run `tools/build buffer_pool_c` in the repository, \
              or name the folder of libbuffer_pool_c.a in BUFFER_POOL_LIB",
             archive.display()
         );
@@ -20,7 +20,7 @@ fn main() {
     println!("cargo::rustc-link-lib=static=buffer_pool_c");
 }
 
-/// Where `rt staticlib` puts archives.
+/// Where `tools/build` puts archives.
 fn default_folder() -> PathBuf {
     let here = env::var_os("CARGO_MANIFEST_DIR").expect("cargo names the package's folder");
     PathBuf::from(here).join("../../target/staticlib")

@@ -1,5 +1,5 @@
--- What the held bytes of line T are (W-206): the highest end of a live slice, 0 without one, of every record; and no other number is
--- that. In a sound record they are the end of the last live slot, and no more than the pool's capacity. Assumes nothing.
+-- What the highest end of a live slice is (W-206), which line T does not show yet: no live slice ends above, one ends there, and no
+-- other number is that. In a sound record it is the end of the last live slot, and no more than the pool's capacity. Assumes nothing.
 use mathlib.Core.Path.{◌≡◌, refl, sym}
 use mathlib.Core.Bool.{true}
 use Prim.Native.Nat.{ℕ, ◌≤◌}
@@ -26,12 +26,12 @@ held_is_highest = highest_is
 pub nothing_else_is_highest : (r : BufferPool) (n : ℕ) → IsHighestEnd r n → n ≡ held r
 nothing_else_is_highest r n N = one_highest r n (held r) N (held_is_highest r)
 
--- "0 without one"
+-- 0 without one
 pub held_without_slices : (r : BufferPool) → ((p : ℕ) → Held r.slots r.live p → ⊥) → held r ≡ 0
 held_without_slices r f =
     sym (nothing_else_is_highest r 0 (record { none_above = λ p t. absurd (f p t); one_there = λ l. absurd (omega arith) }))
 
--- "Freed gaps below count as held": a release leaves them as they are, where another live slice ends as high
+-- freed gaps below count as held: a release leaves them as they are, where another live slice ends as high
 pub freed_gaps_count : (r : BufferPool) (h : Handle) (q : ℕ) → Held r.slots r.live q → (h.slot ≡ q → ⊥)
     → after r.starts r.lengths h.slot ≤ after r.starts r.lengths q → held (release_step r.slots r h).pool ≡ held r
 unfolding release_step

@@ -18,7 +18,7 @@ unfoldable pub highest_end : ℕ → ℕ → List ℕ → List ℕ → ℕ → �
 highest_end w live starts lengths zero = 0
 highest_end w live starts lengths (suc b) = max (highest_end w live starts lengths b) (live_end w live starts lengths (suc b))
 
--- over all slots: "the highest end of a live pooled slice, 0 without one"
+-- over all slots: the highest end of a live pooled slice, 0 without one
 unfoldable pub held : BufferPool → ℕ
 held r = highest_end r.slots r.live r.starts r.lengths r.slots
 

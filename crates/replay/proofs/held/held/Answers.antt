@@ -7,7 +7,7 @@ pub loop-p-init : goal.loop-p-init
 loop-p-init c = search (none_passed, rules)
 
 pub loop-p-preserved : goal.loop-p-preserved
-loop-p-preserved c = search (one_passed, rules)
+loop-p-preserved c = (search rules, search rules, search one_passed)
 
 pub returns : goal.returns
 returns c = search all_passed

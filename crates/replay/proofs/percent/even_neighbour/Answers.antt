@@ -3,7 +3,7 @@ use Rattle.replay.proofs.PercentLaws.{even, odd}
 use Rattle.replay.proofs.percent.even_neighbour.Goals as goal
 
 pub returns-then-q-eq0 : goal.returns-then-q-eq0
-returns-then-q-eq0 c = even c.args.q c.if-q-eq0.true
+returns-then-q-eq0 c = search even
 
 pub returns : goal.returns
-returns c = odd c.args.q c.if-q-eq0.false
+returns c = search odd
