@@ -1,7 +1,7 @@
--- `BufferPool<BufferFromSystemMemory>` of the Rust, function by function under its names, bytes moved at once, as
--- it does. A failed assert, an index out of bounds, a difference below 0 and an `unreachable!` arm are a panic; a sum is a whole
--- number. w is `POOL_CAPACITY`; `live` is the Rust's `shared_state`, read once at the start of a reserve. The pairs of `slots`
--- are two lists. Left out: the `debug` and `fuzz` features, threads.
+-- `BufferPool<BufferFromSystemMemory>` of the Rust, function by function under its names (`rust_` before names that the pool's own
+-- definitions have), bytes moved at once, as it does. A failed assert, an index out of bounds, a difference below 0 and an
+-- `unreachable!` arm are a panic; a sum is a whole number. w is `POOL_CAPACITY`; `live` is the Rust's `shared_state`, read once at the
+-- start of a reserve. The pairs of `slots` are two lists. Left out: the `debug` and `fuzz` features, threads.
 use Rattle.std.specs.Prelude.{Bool, true, false, not, ◌&&◌, ◌||◌, List, [], ◌++◌, ℕ, zero, suc, ◌+◌, ◌-◌, ◌/◌, ◌^◌, min, leb, ltb, eqb, length, take, drop, get_or, set, replicate}
 use Rattle.std.specs.Int.Count.{count_leading_zeros, count_trailing_zeros}
 use Rattle.laws.specs.Tests.{pick}

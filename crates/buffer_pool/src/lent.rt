@@ -521,7 +521,7 @@ impl Numbers {
         caller: u64,
         destination: &mut [u8],
     ) -> Taking
-        ensures { Takes (filled self starts.now lengths.now (record { serials = serials.entry.now; callers = callers.now; given = given.now })) (memories pool.now overflow.new) destination.new (spec.take self.slots (filled self starts.now lengths.now (record { serials = serials.entry.now; callers = callers.now; given = given.now })) (memories pool.now overflow.old) caller destination.old) result }
+        ensures { Takes (filled self starts.now lengths.now (record { serials = serials.now; callers = callers.now; given = given.now })) (memories pool.now overflow.new) destination.new (spec.take self.slots (filled self starts.now lengths.now (record { serials = serials.now; callers = callers.now; given = given.now })) (memories pool.now overflow.old) caller destination.old) result }
     {
         entries(*serials);
         owners(*callers);
@@ -563,7 +563,7 @@ impl Numbers {
         overflow: &[u8],
         h: Handle,
     ) -> Releasing
-        ensures { (given : List ℕ) → length given ≡ caller_count → Releases (filled self starts.now lengths.now (record { serials = serials.entry.now; callers = callers.now; given = given })) (spec.release self.slots (filled self starts.now lengths.now (record { serials = serials.entry.now; callers = callers.now; given = given })) (memories pool.now overflow.now) h) result }
+        ensures { (given : List ℕ) → length given ≡ caller_count → Releases (filled self starts.now lengths.now (record { serials = serials.now; callers = callers.now; given = given })) (spec.release self.slots (filled self starts.now lengths.now (record { serials = serials.now; callers = callers.now; given = given })) (memories pool.now overflow.now) h) result }
     {
         entries(*serials);
         owners(*callers);
@@ -652,7 +652,7 @@ impl Numbers {
         overflow: &[u8],
         h: Handle,
     ) -> View
-        ensures { (given : List ℕ) → length given ≡ caller_count → result ≡ spec.slice_view self.slots (filled self starts.now lengths.now (record { serials = serials.entry.now; callers = callers.now; given = given })) (memories pool.now overflow.now) h }
+        ensures { (given : List ℕ) → length given ≡ caller_count → result ≡ spec.slice_view self.slots (filled self starts.now lengths.now (record { serials = serials.now; callers = callers.now; given = given })) (memories pool.now overflow.now) h }
     {
         entries(*serials);
         owners(*callers);

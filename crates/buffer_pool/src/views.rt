@@ -143,7 +143,7 @@ impl BufferPool {
     // Sets byte `index` of the frame; past its end, none. Gives the number of the view's refusal, or 0: refused with 1 and 2.
     pub fn write_frame(self, pool: &mut [u8], overflow: &mut [u8], index: u64, byte: u8) -> u8
         ensures value { result ≡ (spec.frame_view self.slots self (memories pool.old overflow.old)).number }
-        ensures overflow_after { memories pool.new overflow.new ≡ spec.written (memories pool.old overflow.old) (spec.frame_view self.slots self (memories pool.old overflow.old)).place index byte }
+        ensures memories_after { memories pool.new overflow.new ≡ spec.written (memories pool.old overflow.old) (spec.frame_view self.slots self (memories pool.old overflow.old)).place index byte }
     {
         let v = self.frame_view(pool, overflow);
         write(pool, overflow, v.place, index, byte);
@@ -179,7 +179,7 @@ impl BufferPool {
     // Sets byte `index` of the reservation; past its end, none. Gives the number of the view's refusal, or 0: refused with 1 and 2.
     pub fn write_reservation(self, pool: &mut [u8], overflow: &mut [u8], index: u64, byte: u8) -> u8
         ensures value { result ≡ (spec.reservation_view self.slots self (memories pool.old overflow.old)).number }
-        ensures overflow_after { memories pool.new overflow.new ≡ spec.written (memories pool.old overflow.old) (spec.reservation_view self.slots self (memories pool.old overflow.old)).place index byte }
+        ensures memories_after { memories pool.new overflow.new ≡ spec.written (memories pool.old overflow.old) (spec.reservation_view self.slots self (memories pool.old overflow.old)).place index byte }
     {
         let v = self.reservation_view(pool, overflow);
         write(pool, overflow, v.place, index, byte);
@@ -224,7 +224,7 @@ impl BufferPool {
         byte: u8,
     ) -> u8
         ensures value { result ≡ (spec.slice_view self.slots self (memories pool.old overflow.now) h).number }
-        ensures overflow_after { memories pool.new overflow.now ≡ spec.written (memories pool.old overflow.now) (spec.slice_view self.slots self (memories pool.old overflow.now) h).place index byte }
+        ensures memories_after { memories pool.new overflow.now ≡ spec.written (memories pool.old overflow.now) (spec.slice_view self.slots self (memories pool.old overflow.now) h).place index byte }
     {
         let v = self.slice_view(pool, overflow, h);
         set_byte(pool, v.place, index, byte);

@@ -53,7 +53,7 @@ pub extern "C" fn pool_bench_rounds(
     rounds: u64,
 ) -> u32
     ensures value { result ≡ given_to (spec.rounds len rounds (spec.started (memories pool.old overflow.old) destination.old)).held 0 }
-    ensures overflow_after { memories pool.new overflow.new ≡ (spec.rounds len rounds (spec.started (memories pool.old overflow.old) destination.old)).memory }
+    ensures memories_after { memories pool.new overflow.new ≡ (spec.rounds len rounds (spec.started (memories pool.old overflow.old) destination.old)).memory }
 {
     let made = BufferPool::new(BufferPool::POOL_CAPACITY, pool, overflow);
     let mut p = made.pool;

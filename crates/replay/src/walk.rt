@@ -37,8 +37,8 @@ fn put_event(
     requires within { Within (2 ^ 63) w.state.tally }
     requires pool_len_bound { (length pool.old ≤ 2 ^ 32) × (length overflow.old ≤ 2 ^ 32) × (length bytes.now ≤ 2 ^ 32) }
     ensures out_after { output result.at out.new ≡ wrote (output w.at out.old) (spec.line number (step bytes.now (running w.state (memories pool.old overflow.old) destination.old) e).step.shown) }
-    ensures destination_after { running result.state (memories pool.new overflow.new) destination.new ≡ left (step bytes.now (running w.state (memories pool.old overflow.old) destination.old) e) }
-    ensures at_bound_2 { result.at ≤ w.at + 128 }
+    ensures run_after { running result.state (memories pool.new overflow.new) destination.new ≡ left (step bytes.now (running w.state (memories pool.old overflow.old) destination.old) e) }
+    ensures at_after { result.at ≤ w.at + 128 }
 {
     let before = w.state;
     let s = run_event(before, pool, overflow, destination, bytes, e);

@@ -11,5 +11,5 @@ pub returns : goal.returns
 returns c =
     record {
       value = search serials_given;
-      overflow_after = search memories_left;
+      memories_after = search memories_left;
     }

@@ -17,7 +17,7 @@ pub loop-word-smaller : goal.loop-word-smaller
 loop-word-smaller c = search (fewer_runs, rules)
 
 pub loop-word-preserved : goal.loop-word-preserved
-loop-word-preserved c = search (bits_on, run_on, rules)
+loop-word-preserved c = (search bits_on, search run_on)
 
 pub returns : goal.returns
 returns c = search (all_passed, rules)

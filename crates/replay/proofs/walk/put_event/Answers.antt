@@ -29,6 +29,6 @@ returns c =
     let l = c.put_line-at in
     record {
       out_after = event_line a.bytes.now a.w.state m o a.destination.now f a.e x.result x.ensures a.number (output a.w.at a.out.now) (output l.result l.new.out) l.ensures.0;
-      destination_after = event_left a.bytes.now a.w.state m o a.destination.now f a.e x.result x.ensures;
-      at_bound_2 = search rules;
+      run_after = event_left a.bytes.now a.w.state m o a.destination.now f a.e x.result x.ensures;
+      at_after = search rules;
     }

@@ -48,11 +48,11 @@ loop-i-preserved c =
       search rules,
       search rules,
       search rules,
-      omega (arith, v.6, y.ensures.at_bound_2),
-      next_sound a.bytes.now w.x.state y.result.state (memories w.pool w.overflow) o w.destination f e.result y.ensures.destination_after v.7,
-      next_next a.bytes.now w.x.state y.result.state (memories w.pool w.overflow) o w.destination f e.result y.ensures.destination_after v.8,
-      next_within a.bytes.now w.x.state y.result.state (memories w.pool w.overflow) o w.destination f e.result y.ensures.destination_after w.i v.9,
-      walk_more a.bytes.now w.x.state y.result.state (memories w.pool w.overflow) o w.destination f e.result y.ensures.destination_after w.i (content a.file.now).events (output w.x.at w.out) (output y.result.at y.new.out) (wrote (output a.w.at a.out.now) (lines a.bytes.now (running a.w.state (memories a.pool.now a.overflow.now) a.destination.now) 0 (content a.file.now).events))
+      omega (arith, v.6, y.ensures.at_after),
+      next_sound a.bytes.now w.x.state y.result.state (memories w.pool w.overflow) o w.destination f e.result y.ensures.run_after v.7,
+      next_next a.bytes.now w.x.state y.result.state (memories w.pool w.overflow) o w.destination f e.result y.ensures.run_after v.8,
+      next_within a.bytes.now w.x.state y.result.state (memories w.pool w.overflow) o w.destination f e.result y.ensures.run_after w.i v.9,
+      walk_more a.bytes.now w.x.state y.result.state (memories w.pool w.overflow) o w.destination f e.result y.ensures.run_after w.i (content a.file.now).events (output w.x.at w.out) (output y.result.at y.new.out) (wrote (output a.w.at a.out.now) (lines a.bytes.now (running a.w.state (memories a.pool.now a.overflow.now) a.destination.now) 0 (content a.file.now).events))
           (omega (arith, h, v.1)) e.ensures y.ensures.out_after v.10,
     )
 

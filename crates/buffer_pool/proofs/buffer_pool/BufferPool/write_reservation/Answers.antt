@@ -10,5 +10,5 @@ pub returns : goal.returns
 returns c =
     record {
       value = search number_there;
-      overflow_after = search written_there;
+      memories_after = search written_there;
     }

@@ -9,5 +9,5 @@ pub returns : goal.returns
 returns c =
     record {
       value = search number_there;
-      overflow_after = search slice_written;
+      memories_after = search slice_written;
     }

@@ -1,0 +1,6 @@
+-- `buffer_pool::no_place` meets its contract. Assumes nothing.
+use borrow.Author.Rules.{rules}
+use Rattle.buffer_pool.proofs.buffer_pool.no_place.Goals as goal
+
+pub returns : goal.returns
+returns c = search rules
