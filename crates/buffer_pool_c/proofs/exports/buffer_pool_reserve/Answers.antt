@@ -1,10 +1,8 @@
 -- `exports::buffer_pool_reserve` meets its contract. Assumes nothing.
 use Rattle.std.proofs.Common.{◌≡◌, [], sym, subst, rules}
 use Rattle.buffer_pool.specs.Moves.{memories}
-use Rattle.buffer_pool.specs.Numbers.{Whole}
 use Rattle.buffer_pool_c.specs.declared.record.Record.{Record}
 use Rattle.buffer_pool_c.specs.Exports as spec
-use Rattle.buffer_pool_c.proofs.RecordLaws.{rest_held}
 use Rattle.buffer_pool_c.proofs.Stored.{renumbered}
 use Rattle.buffer_pool_c.proofs.ExportLaws.{reset, reserve_as}
 use Rattle.buffer_pool_c.proofs.exports.buffer_pool_reserve.Goals as goal
@@ -13,7 +11,6 @@ use Rattle.buffer_pool_c.proofs.exports.buffer_pool_reserve.Goals.{then-c, else-
 pub returns : goal.returns
 returns c =
     let a = c.args in
-    let whole : Whole (rest_held a.held.now) = record { serials_all = search rules; callers_all = search rules; given_all = search rules } in
     let m = memories a.pool.now a.overflow.now in
     let after = memories c.reserve-c.new.pool c.reserve-c.new.overflow in
     let stored : c.if-c.held ≡ reset a.held.now c.reserve-c.result =
@@ -22,5 +19,5 @@ returns c =
     subst
     (λ (h : Record). spec.left c.reserve_result.result (renumbered h c.numbers_after-n.result) after [] ≡ spec.reserve a.held.now m a.len)
     (sym stored)
-    (reserve_as a.held.now whole (search rules) (search rules) m a.len c.numbers_of.result c.numbers_of.ensures after c.reserve-c.result c.reserve-c.ensures
+    (reserve_as a.held.now (search rules) (search rules) (search rules) m a.len c.numbers_of.result c.numbers_of.ensures after c.reserve-c.result c.reserve-c.ensures
     c.numbers_after-n.result c.numbers_after-n.ensures c.reserve_result.result c.reserve_result.ensures)
