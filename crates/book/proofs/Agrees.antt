@@ -12,6 +12,7 @@ use borrow.Author.Tests.{leb-false, ltb-false, eqb-true, eqb-false}
 use lib.Dec.{leb, ltb, eqb}
 use lib.ListN.{length, set, take, drop, length-take}
 use lib.Seq.{take-take, take_all}
+use Rattle.std.specs.Prelude.{Ok}
 use Rattle.laws.specs.Tests.{pick}
 use Rattle.laws.specs.Lists.{part, moved}
 use Rattle.laws.proofs.Tests.{no_true}
@@ -29,9 +30,9 @@ use Rattle.buffer_pool.specs.Moves.{Memories, act, perform}
 use Rattle.buffer_pool.specs.Placing.{Decision, place, is_too_long}
 use Rattle.buffer_pool.specs.Soundness as test
 use Rattle.buffer_pool.specs.Sound.{InMode, Orderly, Sound}
-use Rattle.buffer_pool.specs.Values.{values}
+use Rattle.buffer_pool.specs.Values.{values, View, view_place}
 use Rattle.buffer_pool.specs.Steps.{called, at, frame_of, frame, reservation, reserve_on, reserve_step, resized, reframed, refused, commit_step, truncate_step, most_serials, given_to, next_handle, handed_out, longer, take_on, take_step, take_moves, names, freed, release_step}
-use Rattle.buffer_pool.specs.declared.buffer_pool.View.{View}
+use Rattle.buffer_pool.specs.declared.refusals.Refusal.TheVariants.{CommitTooLong, NotLive}
 use Rattle.buffer_pool.specs.Calls.{Outcome, outcome, misfit, copied_out, shown, hidden, memory_at, bytes_at, written}
 use Rattle.buffer_pool.specs.Vocabulary.{Part, TheFrame, TheReservation, TheSlice, Call, Reserve, Commit, Truncate, Take, Release, Look, view_of, call}
 use Rattle.buffer_pool.proofs.Soundness.{sound_make}
@@ -190,8 +191,8 @@ module _ (w : ℕ) (r : BufferPool) (m : Memories) (b : Book) (G : Agrees w r m 
   commit_agrees n = go (ltb r.reserved n) refl (sound_after w r (kept.Commit n) G.sound)
     where
       go : (t : Bool) → ltb r.reserved n ≡ t
-          → Sound w (pick t (refused r 5) (reframed (resized r.mode r ((frame r).length + n)))).pool
-          → After w b (Commit n) (outcome (pick t (refused r 5) (reframed (resized r.mode r ((frame r).length + n)))) m [])
+          → Sound w (pick t (refused r CommitTooLong) (reframed (resized r.mode r ((frame r).length + n)))).pool
+          → After w b (Commit n) (outcome (pick t (refused r CommitTooLong) (reframed (resized r.mode r ((frame r).length + n)))) m [])
       go true e N = G
       go false e N =
           resized_agrees r.mode ((frame r).length + n) _ N
@@ -274,8 +275,8 @@ module _ (w : ℕ) (r : BufferPool) (m : Memories) (b : Book) (G : Agrees w r m 
   unfolding release_step
   release_agrees h = go (names w r h) refl (sound_after w r (kept.Release h) G.sound)
     where
-      go : (t : Bool) → names w r h ≡ t → Sound w (pick t (called (freed w r h.slot) Done) (refused r 7)).pool
-          → After w b (Release h) (outcome (pick t (called (freed w r h.slot) Done) (refused r 7)) m [])
+      go : (t : Bool) → names w r h ≡ t → Sound w (pick t (called (freed w r h.slot) (Ok Done)) (refused r NotLive)).pool
+          → After w b (Release h) (outcome (pick t (called (freed w r h.slot) (Ok Done)) (refused r NotLive)) m [])
       go true e N =
           let q = freed_frame w r h.slot r.mode in
           record {
@@ -307,7 +308,7 @@ module _ (w : ℕ) (r : BufferPool) (m : Memories) (b : Book) (G : Agrees w r m 
   offer_frame : Off (reservation r) (frame r)
   offer_frame = above (le_refl _)
 
-  write_agrees : (v : Part) (i byte : ℕ) → Agrees w r (written m (plain_view w r v).place i byte) (note_write b v i byte)
+  write_agrees : (v : Part) (i byte : ℕ) → Agrees w r (written m (view_place (plain_view w r v)) i byte) (note_write b v i byte)
   write_agrees TheFrame i byte =
       record {
         sound = G.sound;
@@ -343,7 +344,7 @@ module _ (w : ℕ) (r : BufferPool) (m : Memories) (b : Book) (G : Agrees w r m 
           }
 
       go : (t : Bool) → names w r h ≡ t
-          → Agrees w r (written m (pick t (shown (at Pool h.start h.length)) (hidden 7)).place i byte)
+          → Agrees w r (written m (view_place (pick t (shown (at Pool h.start h.length)) (hidden NotLive))) i byte)
           (note_write b (TheSlice h) i byte)
       go true e =
           let N = names_use w r h e in
@@ -368,5 +369,5 @@ next_agrees w s b G (Other m c) = go (misfit s.pool m) refl
         subst (λ (o : Outcome). Agrees w o.call.pool s.lent b) (sym (call_other w s.pool m (agrees_tested G) f c)) G
     go false f = G
 next_agrees w s b G (Write v i byte) =
-    subst (λ (x : View). Agrees w s.pool (written s.lent x.place i byte) (note_write b v i byte))
+    subst (λ (x : View). Agrees w s.pool (written s.lent (view_place x) i byte) (note_write b v i byte))
     (sym (agrees_view G v)) (write_agrees w s.pool s.lent b G v i byte)

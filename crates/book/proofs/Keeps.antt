@@ -18,6 +18,7 @@ use Rattle.buffer_pool.specs.declared.buffer_pool.BufferPool.{BufferPool}
 use Rattle.buffer_pool.specs.declared.buffer_pool.PoolMode.{PoolMode}
 use Rattle.buffer_pool.specs.declared.buffer_pool.PoolMode.TheVariants.{Back, Front, Alloc}
 use Rattle.buffer_pool.specs.declared.slice.Handle.{Handle}
+use Rattle.buffer_pool.specs.declared.refusals.Refusal.TheVariants.{NotLive}
 use Rattle.buffer_pool.specs.Record.{byte_limit, caller_count}
 use Rattle.buffer_pool.specs.Moves.{Memories}
 use Rattle.buffer_pool.specs.Soundness.{is_slot_count}
@@ -71,7 +72,7 @@ module _ (w : ℕ) (s : State) (b : Book) (G : Agrees w s.pool s.lent b) where
       record {
         view =
             agrees_view G (TheSlice x.handle)
-            ∙ ap (λ (t : Bool). pick t (shown (slice_of x)) (hidden 7)) (names_make w r x.handle N);
+            ∙ ap (λ (t : Bool). pick t (shown (slice_of x)) (hidden NotLive)) (names_make w r x.handle N);
         inside =
             omega (
               arith,

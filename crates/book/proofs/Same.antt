@@ -5,13 +5,14 @@ use mathlib.Core.Bool.{Bool, true, false}
 use mathlib.Core.List.{List, [], ◌∷◌}
 use Prim.Native.Nat.{ℕ}
 use lib.ListN.{length, length-replicate}
+use Rattle.std.specs.Prelude.{Ok}
 use Rattle.buffer_pool.specs.declared.buffer_pool.BufferPool.{BufferPool}
 use Rattle.buffer_pool.specs.declared.buffer_pool.Answer.TheVariants.{Done}
 use Rattle.buffer_pool.specs.declared.buffer_pool.Called.{Called}
 use Rattle.buffer_pool.specs.Moves.{Memories}
-use Rattle.buffer_pool.specs.Values.{refusal}
+use Rattle.buffer_pool.specs.Values.{refusal, View}
 use Rattle.buffer_pool.specs.Steps.{called, refused, frame, reservation, take_step}
-use Rattle.buffer_pool.specs.declared.buffer_pool.View.{View}
+use Rattle.buffer_pool.specs.declared.refusals.Refusal.TheVariants.{WrongLength}
 use Rattle.buffer_pool.specs.Calls.{Outcome, misfit, new_on, new, copied_out, shown, reservation_view}
 use Rattle.buffer_pool.specs.Vocabulary.{TheFrame, TheReservation, Call, Reserve, Commit, Truncate, Take, Release, Look, view_of, call}
 use Rattle.buffer_pool.specs.Soundness.{is_slot_count}
@@ -86,10 +87,10 @@ module _ (w : ℕ) where
 
       go : (t : Bool) → misfit s.pool m ≡ t → (lent_other t s (call w s.pool m c)).call ≡ (other t).call
       go true f =
-          ap (λ (o : Outcome). o.call) (call_other w s.pool m (agrees_tested G) f c) ∙ ap (λ (r : BufferPool). refused r 2) p
+          ap (λ (o : Outcome). o.call) (call_other w s.pool m (agrees_tested G) f c) ∙ ap (λ (r : BufferPool). refused r WrongLength) p
           ∙ sym (ap (λ (o : Outcome). o.call)
           (call_other w s'.pool (blank_memories m) (agrees_tested H) (sym fits ∙ f) (blank_call c)))
-      go false f = ap (λ (r : BufferPool). called r Done) p
+      go false f = ap (λ (r : BufferPool). called r (Ok Done)) p
 
   -- and then the rest of the two lists
   entry_then : (s s' : State) (b b' : Book) (e e' : Entry) → Fine s b → Fine s' b' → (happens w s e).call ≡ (happens w s' e').call

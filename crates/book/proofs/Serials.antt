@@ -11,20 +11,20 @@ use borrow.Author.Tests.{leb-false, eqb-true, eqb-false, eq-eqb}
 use lib.Dec.{leb, ltb, eqb}
 use lib.ListN.{length, replicate, length-set, get_or-replicate}
 use lib.Seq.{get_or-set_same, get_or-set_other}
+use Rattle.std.specs.Prelude.{Ok, Err}
 use Rattle.laws.specs.Tests.{pick}
 use Rattle.laws.proofs.Tests.{pick_cases}
 use Rattle.buffer_pool.specs.declared.slice.Handle.{Handle}
 use Rattle.buffer_pool.specs.declared.buffer_pool.BufferPool.{BufferPool}
 use Rattle.buffer_pool.specs.declared.buffer_pool.PoolMode.{PoolMode}
 use Rattle.buffer_pool.specs.declared.buffer_pool.PoolMode.TheVariants.{Back, Front, Alloc}
-use Rattle.buffer_pool.specs.declared.buffer_pool.Place.{Place}
 use Rattle.buffer_pool.specs.declared.buffer_pool.Answer.TheVariants.{Taken}
 use Rattle.buffer_pool.specs.declared.buffer_pool.Called.{Called}
 use Rattle.buffer_pool.specs.Record.{byte_limit, caller_count}
 use Rattle.buffer_pool.specs.Moves.{Memories}
 use Rattle.buffer_pool.specs.Placing.{place, is_too_long}
 use Rattle.buffer_pool.specs.Soundness.{is_slot_count, sound}
-use Rattle.buffer_pool.specs.Values.{no_place, Values, valued, values}
+use Rattle.buffer_pool.specs.Values.{no_place, Values, valued, values, View}
 use Rattle.buffer_pool.specs.Steps.{called, frame_of, frame, reserve_on, reserve_step, resized, commit_step, truncate_step, most_serials, given_to, next_handle, handed_out, take_on, take_step, names, release_step}
 use Rattle.buffer_pool.specs.Calls.{Outcome, misfit, guarded_call, bytes_at, new_on, new, reserve, commit, truncate, copied_out, take, release}
 use Rattle.buffer_pool.specs.Vocabulary.{TheFrame, TheReservation, TheSlice, Call, Reserve, Commit, Truncate, Take, Release, Look, view_answer, call}
@@ -124,7 +124,7 @@ module _ (w : ℕ) (r : BufferPool) (h : caller_count ≤ length r.given) where
   module _ (by : ℕ) (destination : List ℕ) where
     -- a take that gives a slice: the caller's count, and no other, is one more
     handed_counted : leb caller_count by ≡ false → (mode : PoolMode) (n : ℕ)
-        → CallCounted (Take by destination) (called (handed_out w by r mode n) (Taken (next_handle r by)))
+        → CallCounted (Take by destination) (called (handed_out w by r mode n) (Ok (Taken (next_handle r by))))
     handed_counted a mode n =
         record {
           grown = record { places = rw length-set h; grows = λ caller b. grows caller (eqb by caller) refl };
@@ -142,7 +142,7 @@ module _ (w : ℕ) (r : BufferPool) (h : caller_count ≤ length r.given) where
             get_or-set_other r.given by caller (suc (given_to r by)) 0 (λ d. eqb-false by caller e (sym d)) ∙ omega arith
 
         numbered : (caller k : ℕ) (t : Bool) → eqb by caller ≡ t → pick t (min (suc r.used) 1) 0 ≡ suc k
-            → Numbered r caller (values (Taken (next_handle r by))) k
+            → Numbered r caller (values (Ok (Taken (next_handle r by)))) k
         numbered caller k true e f =
             let same = eqb-true by caller e in
             record { one = omega arith; a_caller = rw (← same) below; caller_is = same; serial_is = rw (← same) refl }
@@ -169,10 +169,10 @@ module _ (w : ℕ) (r : BufferPool) (h : caller_count ≤ length r.given) where
         go false a false true spent Alloc = none refl refl
         go false a false false spent Alloc = none refl refl
 
-  look_handle : (n : ℕ) (place : Place) → (values (view_answer n place)).handle.slot ≡ 0
+  look_handle : (v : View) → (values (view_answer v)).handle.slot ≡ 0
   unfolding view_answer
-  look_handle zero place = refl
-  look_handle (suc n) place = refl
+  look_handle (Ok place) = refl
+  look_handle (Err why) = refl
 
   call_counted : (m : Memories) (c : Call) → CallCounted c (call w r m c).call
   unfolding call reserve commit truncate take copied_out release
@@ -181,7 +181,7 @@ module _ (w : ℕ) (r : BufferPool) (h : caller_count ≤ length r.given) where
   call_counted m (Truncate n) = guarded_counted m (Truncate n) [] _ (truncate_counted n)
   call_counted m (Take by destination) = guarded_counted m (Take by destination) destination _ (take_counted by destination)
   call_counted m (Release k) = guarded_counted m (Release k) [] _ (release_counted k)
-  call_counted m (Look part) = plain_counted (Look part) refl (look_handle _ _)
+  call_counted m (Look part) = plain_counted (Look part) refl (look_handle _)
 
 -- ---- Every list
 

@@ -3,12 +3,11 @@ use Rattle.std.specs.Prelude.{◌≡◌, true, List, [], ◌∷◌, ◌++◌, �
 use Rattle.buffer_pool.specs.declared.buffer_pool.BufferPool.{BufferPool}
 use Rattle.buffer_pool.specs.declared.buffer_pool.Memory.TheVariants.{Pool}
 use Rattle.buffer_pool.specs.declared.buffer_pool.Place.{Place}
-use Rattle.buffer_pool.specs.declared.buffer_pool.Answer.{Answer}
-use Rattle.buffer_pool.specs.Values.{no_place, no_handle, valued, values}
+use Rattle.buffer_pool.specs.Values.{Response, no_place, no_handle, valued, values, View}
 use Rattle.buffer_pool.specs.Moves.{Memories, memories}
 use Rattle.buffer_pool.specs.Sound.{Held}
 use Rattle.buffer_pool.specs.Steps.{refused, at, frame, reservation, names}
-use Rattle.buffer_pool.specs.declared.buffer_pool.View.{View}
+use Rattle.buffer_pool.specs.declared.refusals.Refusal.TheVariants.{WrongLength}
 use Rattle.buffer_pool.specs.Calls.{Outcome, outcome, misfit, shown, frame_view, reservation_view, bytes_at, Lies}
 use Rattle.buffer_pool.specs.Vocabulary.{Part, TheFrame, TheReservation, TheSlice, Call, Reserve, Commit, Truncate, Take, Release, Look, destination_of, view_of, call}
 use Rattle.book.specs.Entries.{Entry, Own, Other, Write, State, happens, next}
@@ -69,7 +68,7 @@ pub record Kept (w : ℕ) (s : State) (b : Book) : Type 0 where
   -- 8.1, of a call lent "memories of other lengths": "it is refused with 2", whichever call is made now, and changes nothing:
   -- neither the record nor the memories and the destination that it was lent
   pub refused_other : (m : Memories) (c : Call) → misfit s.pool m ≡ true
-      → call w s.pool m c ≡ outcome (refused s.pool 2) m (destination_of c)
+      → call w s.pool m c ≡ outcome (refused s.pool WrongLength) m (destination_of c)
 
 -- one statement over the whole list: `Kept` before the first entry and after each
 unfoldable pub Always : ℕ → State → Book → List Entry → Type 0
@@ -104,7 +103,7 @@ calls (Write v i byte ∷ es) = calls es
 -- what is seen at a call: its answer (refusal, place, handle with its serial and caller, count of mode changes), the record it
 -- leaves (mode, live slots, their places, serials and callers), and frame and reservation as viewed then
 pub record Seen : Type 0 where
-  pub answer : Answer
+  pub answer : Response
   pub pool : BufferPool
   pub frame : View
   pub reservation : View

@@ -1,6 +1,6 @@
 -- The entries of demand 3's lists (SPECIFICATION 8.1), and what each leaves: calls and writes do what buffer_pool's definitions of
 -- them say. w is the slot count.
-use Rattle.std.specs.Prelude.{Bool, true, false, [], ℕ}
+use Rattle.std.specs.Prelude.{Bool, true, false, Ok, [], ℕ}
 use Rattle.buffer_pool.specs.declared.buffer_pool.BufferPool.{BufferPool}
 use Rattle.buffer_pool.specs.declared.buffer_pool.Answer.TheVariants.{Done}
 use Rattle.buffer_pool.specs.Moves.{Memories}
@@ -38,7 +38,7 @@ opened w m = state (new w m)
 -- record's very lengths are no other ones: such an entry is none of the list, and nothing happens.
 abbrev pub lent_other : Bool → State → Outcome → Outcome
 lent_other true s o = outcome o.call s.lent []
-lent_other false s o = outcome (called s.pool Done) s.lent []
+lent_other false s o = outcome (called s.pool (Ok Done)) s.lent []
 
 -- SPECIFICATION 8.1: "Each entry gets record and memories as the last left them"; of a call lent "memories of other lengths",
 -- "it is refused with 2, and the next entry gets the pool's own as they were"

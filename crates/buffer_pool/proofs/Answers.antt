@@ -4,7 +4,7 @@ use mathlib.Core.Path.{◌≡◌, refl, sym, ap, ◌∙◌}
 use mathlib.Core.Bool.{Bool, true, false, not}
 use mathlib.Core.List.{List, []}
 use mathlib.Core.Logic.{inl, inr}
-use Prim.Native.Nat.{ℕ, zero, suc}
+use Prim.Native.Nat.{ℕ}
 use native.Mathlib.Omega.{arith}
 use lib.Dec.{leb, ltb, eqb}
 use lib.ListN.{length}
@@ -14,14 +14,15 @@ use Rattle.buffer_pool.specs.declared.slice.Handle.{Handle}
 use Rattle.buffer_pool.specs.declared.buffer_pool.BufferPool.{BufferPool}
 use Rattle.buffer_pool.specs.declared.buffer_pool.PoolMode.{PoolMode}
 use Rattle.buffer_pool.specs.declared.buffer_pool.PoolMode.TheVariants.{Back, Front, Alloc}
-use Rattle.buffer_pool.specs.declared.buffer_pool.Place.{Place}
-use Rattle.buffer_pool.specs.declared.buffer_pool.View.{View}
+use Rattle.buffer_pool.specs.Values.{View, refusal, values, view_refusal}
 use Rattle.buffer_pool.specs.declared.buffer_pool.Called.{Called}
+use Rattle.std.specs.Prelude.{Ok, Err}
+use Rattle.buffer_pool.specs.declared.refusals.Refusal.{Refusal}
+use Rattle.buffer_pool.specs.declared.refusals.Refusal.TheVariants.{Unsound, WrongLength}
 use Rattle.buffer_pool.specs.Moves.{Memories}
 use Rattle.buffer_pool.specs.Placing.{place, is_too_long}
 use Rattle.buffer_pool.specs.Soundness.{sound}
 use Rattle.buffer_pool.specs.Record.{caller_count}
-use Rattle.buffer_pool.specs.Values.{refusal, values}
 use Rattle.buffer_pool.specs.Steps.{refused, frame, reserve_on, reserve_step, commit_step, truncate_step, most_serials, given_to, next_handle, take_on, take_step, names, release_step}
 use Rattle.buffer_pool.specs.Calls.{Outcome, outcome, misfit, guarded, guarded_call, reserve, commit, truncate, copied_out, take, release, shown, hidden, frame_view, reservation_view, slice_view}
 use Rattle.buffer_pool.specs.Vocabulary.{Part, TheFrame, TheReservation, TheSlice, Call, Reserve, Commit, Truncate, Take, Release, Look, view_of, view_answer, call, number_of, done_unless, part_of, Result}
@@ -30,16 +31,16 @@ abbrev Answers : Call → Called → Type 0
 Answers c called = refusal called.answer ≡ 0 → Result c called
 
 -- a view's answer tells its number
-pub view_number : (n : ℕ) (place : Place) → refusal (view_answer n place) ≡ n
+pub view_number : (v : View) → refusal (view_answer v) ≡ view_refusal v
 unfolding view_answer refusal
-view_number zero place = refl
-view_number (suc n) place = refl
+view_number (Ok place) = refl
+view_number (Err why) = refl
 
 -- and so does a write's
-pub write_number : (n : ℕ) → refusal (done_unless n) ≡ n
+pub write_number : (v : View) → refusal (done_unless v) ≡ view_refusal v
 unfolding refusal
-write_number zero = refl
-write_number (suc n) = refl
+write_number (Ok place) = refl
+write_number (Err why) = refl
 
 module _ (w : ℕ) (r : BufferPool) where
   reserve_answers : (len : ℕ) → Answers (Reserve len) (reserve_step w r len)
@@ -86,22 +87,22 @@ module _ (w : ℕ) (r : BufferPool) where
     unfolding refusal
     guarded_answers c destination o k = go (sound w r) (misfit r m)
       where
-        refuse : ℕ → Outcome
-        refuse n = outcome (refused r n) m destination
+        refuse : Refusal → Outcome
+        refuse why = outcome (refused r why) m destination
 
-        go : (a b : Bool) → Answers c (pick (not a) (refuse 1) (pick b (refuse 2) o)).call
+        go : (a b : Bool) → Answers c (pick (not a) (refuse Unsound) (pick b (refuse WrongLength) o)).call
         go false b u = absurd (omega (arith, u))
         go true true u = absurd (omega (arith, u))
         go true false u = k u
 
     -- a view that is not refused shows its part
     abbrev Shows : Part → View → Type 0
-    Shows part v = v.number ≡ 0 → v ≡ shown (part_of part r)
+    Shows part v = view_refusal v ≡ 0 → v ≡ shown (part_of part r)
 
     guarded_shows : (part : Part) (v : View) → Shows part v → Shows part (guarded w r m hidden v)
     guarded_shows part v k = go (sound w r) (misfit r m)
       where
-        go : (a b : Bool) → Shows part (pick (not a) (hidden 1) (pick b (hidden 2) v))
+        go : (a b : Bool) → Shows part (pick (not a) (hidden Unsound) (pick b (hidden WrongLength) v))
         go false b u = absurd (omega (arith, u))
         go true true u = absurd (omega (arith, u))
         go true false u = k u
@@ -122,5 +123,5 @@ module _ (w : ℕ) (r : BufferPool) where
         guarded_answers (Take caller destination) destination _ (take_answers caller destination)
     call_answers (Release h) = guarded_answers (Release h) [] _ (release_answers h)
     call_answers (Look part) = λ u.
-        ap (λ (v : View). values (view_answer v.number v.place))
-        (view_shows part (sym (view_number (view_of w r m part).number (view_of w r m part).place) ∙ u))
+        ap (λ (v : View). values (view_answer v))
+        (view_shows part (sym (view_number (view_of w r m part)) ∙ u))

@@ -19,9 +19,8 @@ use Rattle.buffer_pool.specs.declared.buffer_pool.Called.{Called}
 use Rattle.buffer_pool.specs.Record.{cut, byte_limit}
 use Rattle.buffer_pool.specs.Moves.{Memories}
 use Rattle.buffer_pool.specs.Soundness.{is_slot_count, sound}
-use Rattle.buffer_pool.specs.Values.{no_handle, Values, valued, values, refusal}
+use Rattle.buffer_pool.specs.Values.{no_handle, Values, valued, values, refusal, View, view_refusal, view_place}
 use Rattle.buffer_pool.specs.Steps.{reserve_step, commit_step, truncate_step, take_step, names, release_step}
-use Rattle.buffer_pool.specs.declared.buffer_pool.View.{View}
 use Rattle.buffer_pool.specs.Calls.{Outcome, new_on, new, reserve, commit, truncate, copied_out, take as taken, release, written}
 use Rattle.buffer_pool.specs.Rust.{Run, done, with, RustPool, took}
 use Rattle.buffer_pool.specs.AsRust.{Stands, Unrefused, AsRust, reply_of, slice_in, slice_of, rust_written}
@@ -85,7 +84,7 @@ module _ (w : ℕ) (s : Ours) (t : Theirs) (J : Joined w s t) where
   look_follows : (part : Part) → number_of w r m (Look part) ≡ 0 → Follows (Make (Look part))
   unfolding number_of call rust_step rust_call step given
   look_follows part u =
-      let A = part_agrees w s t J part (sym (view_number (view w s part).number (view w s part).place) ∙ u) in
+      let A = part_agrees w s t J part (sym (view_number (view w s part)) ∙ u) in
       record {
         left = t;
         run_is =
@@ -94,7 +93,7 @@ module _ (w : ℕ) (s : Ours) (t : Theirs) (J : Joined w s t) where
         joined = J;
       }
 
-  write_follows : (part : Part) (i byte : ℕ) → (view w s part).number ≡ 0 → Follows (Write part i byte)
+  write_follows : (part : Part) (i byte : ℕ) → view_refusal (view w s part) ≡ 0 → Follows (Write part i byte)
   unfolding rust_step step given
   write_follows part i byte u =
       let A = part_agrees w s t J part u in
@@ -105,7 +104,7 @@ module _ (w : ℕ) (s : Ours) (t : Theirs) (J : Joined w s t) where
             record {
               sound_is = J.sound_is;
               stands =
-                  subst (λ (v : View). Stands (cut w r) (written m v.place i byte) (rust_written p A.at_place i byte)) (sym A.view_is)
+                  subst (λ (v : View). Stands (cut w r) (written m (view_place v) i byte) (rust_written p A.at_place i byte)) (sym A.view_is)
                   (written_agrees (orderly_cut w r (joined_orderly w s t J)) J.stands A.at_place i byte A.kept);
               held_is = J.held_is;
               holds = J.holds;
@@ -251,7 +250,7 @@ module _ (w : ℕ) (s : Ours) (t : Theirs) (J : Joined w s t) where
   follows (Make (Take caller destination)) u = take_follows caller destination u
   follows (Make (Release h)) u = release_follows h u
   follows (Make (Look part)) u = look_follows part u
-  follows (Write part i byte) u = write_follows part i byte (sym (write_number (view w s part).number) ∙ u)
+  follows (Write part i byte) u = write_follows part i byte (sym (write_number (view w s part)) ∙ u)
 
 -- ---- An action that we refuse leaves ours as it was
 
@@ -261,7 +260,7 @@ held_stays w s (Commit n) h = refl
 held_stays w s (Truncate n) h = refl
 held_stays w s (Take caller destination) h =
     ap (λ (o : Outcome). holding (values o.call.answer) s.held)
-    (refused_keeps w s.pool s.memory (Take caller destination) h)
+    (refused_keeps w s.pool s.memory (Take caller destination) h).1
 held_stays w s (Release h) k = go (number_of w s.pool s.memory (Release h)) k
   where
     go : (n : ℕ) → 0 < n → let_go n h.slot s.held ≡ s.held
@@ -272,11 +271,11 @@ held_stays w s (Look part) h = refl
 stays : (w : ℕ) (s : Ours) (e : Action) → 0 < number w s e → step w s e ≡ s
 unfolding number step
 stays w s (Make c) h =
-    ap (λ (o : Outcome). ours o.call.pool o.memory (held_after w s c)) (refused_keeps w s.pool s.memory c h)
+    ap (λ (o : Outcome). ours o.call.pool o.memory (held_after w s c)) (refused_keeps w s.pool s.memory c h).1
     ∙ ap (λ (held : List Handle). ours s.pool s.memory held) (held_stays w s c h)
 stays w s (Write part i byte) h =
     ap (λ (m : Memories). ours s.pool m s.held)
-    (refused_written w s.pool s.memory part i byte (omega (arith, write_number (view w s part).number)))
+    (refused_written w s.pool s.memory part i byte (omega (arith, write_number (view w s part))))
 
 -- ---- The sequence
 

@@ -1,12 +1,14 @@
--- What a turn of each byte loop of inner_memory.rt does, and what its end leaves, from what the loop knows. Assumes nothing.
+-- What a turn of each byte loop of inner_memory.rt does and its end leaves; a copy and a fill by the library. Assumes nothing.
 use mathlib.Core.Path.{◌≡◌, refl, sym, ap, ◌∙◌}
-use mathlib.Core.List.{List, ◌∷◌, ◌++◌, append_assoc, append-nil}
-use Prim.Native.Nat.{ℕ, zero, suc, ◌+◌, ◌-◌, ◌≤◌, ◌<◌}
+use mathlib.Core.List.{List, ◌∷◌, ◌++◌, append_assoc}
+use Prim.Native.Nat.{ℕ, suc, ◌+◌, ◌-◌, ◌≤◌, ◌<◌}
 use native.Mathlib.Numerals.{add-one}
 use native.Mathlib.Nat.{sub_self, sub-zero, add-zero}
 use native.Mathlib.Omega.{arith}
-use lib.ListN.{length, take, drop, get_or, set, replicate, length-append, length-drop, length-replicate, take-append-drop, get_or-append}
+use lib.ListN.{length, take, drop, get_or, set, replicate, length-append, length-drop, get_or-append}
 use lib.Seq.{paste, paste-zero, paste-suc, drop-paste, length-take-le, get_or-drop, get_or-take, drop-cons, take-suc, set_at}
+use borrow.Rule.Slice.PartMut.{put_mid}
+use Rattle.std.proofs.lemmas.List.{drop-drop}
 use Rattle.laws.specs.Lists.{part, copied, moved, zeroed}
 
 -- ---- A copy between two lists
@@ -20,6 +22,9 @@ pub copied_more : (s : List ℕ) (at i len : ℕ) (d d₀ : List ℕ) (to : ℕ)
 unfolding copied part
 copied_more s at i len d d₀ to e h hs hd =
     rw (e, ← get_or-drop at s i 0, add-one) (paste-suc d₀ to (drop at s) i 0 (omega arith) (rw length-drop (omega arith)))
+
+pub copied_all : (s : List ℕ) (at i len : ℕ) (d d₀ : List ℕ) (to : ℕ) → d ≡ copied s at i d₀ to → i ≤ len → len ≤ i → d ≡ copied s at len d₀ to
+copied_all s at i len d d₀ to e h h' = let z : i ≡ len = omega arith in rw z at e
 
 -- ---- A move to a lower place or the same
 
@@ -80,32 +85,17 @@ pub up_all : (m m₀ : List ℕ) (s i l d : ℕ) → m ≡ copied m₀ (s + i) (
 unfolding moved copied part
 up_all m m₀ s i l d e h = let z : i ≡ 0 = omega arith in simp (z, add-zero, sub-zero) at e
 
--- ---- Bytes cleared
-
-pub zeroed_none : (m : List ℕ) (f : ℕ) → m ≡ zeroed m f f
-unfolding zeroed
-zeroed_none m f = rw (sub_self f) (simp append-nil (sym (take-append-drop f m)))
-
-snoc_zero : (n : ℕ) (l : List ℕ) → replicate n 0 ++ (0 ∷ l) ≡ replicate (suc n) 0 ++ l
-snoc_zero zero l = refl
-snoc_zero (suc n) l = ap (λ (r : List ℕ). 0 ∷ r) (snoc_zero n l)
-
-pub zeroed_more : (m m₀ : List ℕ) (f i to : ℕ) → m ≡ zeroed m₀ f i → f ≤ i → i < to → to ≤ length m₀ → set m i 0 ≡ zeroed m₀ f (i + 1)
-unfolding zeroed
-zeroed_more m m₀ f i to e hf h ht =
-    let z : i + 1 - f ≡ suc (i - f) = omega arith in
-    rw (e, drop-cons m₀ i 0 (omega arith), z, add-one)
-    (set_at (take f m₀ ++ replicate (i - f) 0) (get_or m₀ i 0) (drop (suc i) m₀) 0 i
-    (simp (length-append, length-take-le f m₀ (omega arith), length-replicate) (omega arith))
-    ∙ simp append_assoc (ap (λ (r : List ℕ). take f m₀ ++ r) (snoc_zero (i - f) (drop (suc i) m₀))))
-
--- ---- At the end of a loop the count is all
-
-pub copied_all : (s : List ℕ) (at i len : ℕ) (d d₀ : List ℕ) (to : ℕ) → d ≡ copied s at i d₀ to → i ≤ len → len ≤ i → d ≡ copied s at len d₀ to
-copied_all s at i len d d₀ to e h h' = let z : i ≡ len = omega arith in rw z at e
-
 pub down_all : (m m₀ : List ℕ) (s i len d : ℕ) → m ≡ moved m₀ s i d → i ≤ len → len ≤ i → m ≡ moved m₀ s len d
 down_all m m₀ s i len d e h h' = let z : i ≡ len = omega arith in rw z at e
 
-pub zeroed_all : (m m₀ : List ℕ) (f i to : ℕ) → m ≡ zeroed m₀ f i → i ≤ to → to ≤ i → m ≡ zeroed m₀ f to
-zeroed_all m m₀ f i to e h h' = let z : i ≡ to = omega arith in rw z at e
+-- ---- Bytes cleared
+
+-- by the library's fill of a part
+pub zeroed_over : (m over : List ℕ) (start end : ℕ) → start ≤ end → end ≤ length m → over ≡ replicate (length (take (end - start) (drop start m))) 0
+    → put_mid start (end - start) m over ≡ zeroed m start end
+unfolding zeroed
+zeroed_over m over start end h k e =
+    let l : length (take (end - start) (drop start m)) ≡ end - start = length-take-le (end - start) (drop start m) (rw length-drop (omega arith)) in
+    let j : start + (end - start) ≡ end = omega arith in
+    rw (e, l) (ap (λ (l : List ℕ). take start m ++ (replicate (end - start) 0 ++ l)) (drop-drop (end - start) start m ∙ ap (λ (x : ℕ). drop x m) j)
+    ∙ sym (append_assoc (take start m) (replicate (end - start) 0) (drop end m)))

@@ -3,6 +3,7 @@
 use mathlib.Core.Path.{◌≡◌, refl, sym, ap, ◌∙◌}
 use mathlib.Core.Bool.{Bool, true, false, not}
 use mathlib.Core.List.{List, [], append-nil}
+use Rattle.std.specs.Prelude.{⊤, Result, IsErrAnd, Ok, Err}
 use Prim.Native.Nat.{ℕ, ◌+◌, ◌≤◌, ◌<◌}
 use native.Mathlib.Nat.{le_refl, sub-zero}
 use native.Mathlib.Omega.{arith}
@@ -17,6 +18,8 @@ use Rattle.buffer_pool.specs.declared.buffer_pool.PoolMode.{PoolMode}
 use Rattle.buffer_pool.specs.declared.buffer_pool.PoolMode.TheVariants.{Back, Front, Alloc}
 use Rattle.buffer_pool.specs.declared.buffer_pool.Answer.TheVariants.{Done}
 use Rattle.buffer_pool.specs.declared.buffer_pool.Called.{Called}
+use Rattle.buffer_pool.specs.declared.refusals.Refusal.{Refusal}
+use Rattle.buffer_pool.specs.declared.refusals.Refusal.TheVariants.{Unsound, WrongLength, MemoryTooLong, WrongSlotCount}
 use Rattle.buffer_pool.specs.Record.{most_slots, byte_limit, new_record}
 use Rattle.buffer_pool.specs.Moves.{Memories, memories}
 use Rattle.buffer_pool.specs.Placing.{is_alloc}
@@ -24,7 +27,7 @@ use Rattle.buffer_pool.specs.Deciding.{Worded, Placeable}
 use Rattle.buffer_pool.specs.Soundness.{is_slot_count, sound}
 use Rattle.buffer_pool.specs.Sound.{Orderly, InMode}
 use Rattle.buffer_pool.specs.Steps.{refused, frame_of}
-use Rattle.buffer_pool.specs.Calls.{Outcome, outcome, misfit, cause, guarded_call, new_refused_by, new}
+use Rattle.buffer_pool.specs.Calls.{Outcome, outcome, misfit, guarded, guard, guarded_call, new_refused_by, new}
 use Rattle.buffer_pool.proofs.Soundness.{sound_use}
 use Rattle.buffer_pool.proofs.Parts.{ready_worded}
 use Rattle.buffer_pool.proofs.DecidingLaws.{fit_placeable}
@@ -33,66 +36,85 @@ use Rattle.buffer_pool.proofs.ReserveKept.{kept_fit}
 -- ---- What turns every call away
 
 module _ (p : BufferPool) (m : Memories) (b : Bool) (e : b ≡ sound p.slots p) where
-  pub cause_unsound : not b ≡ true → 1 ≡ cause p.slots p m
-  unfolding cause
-  cause_unsound h = rw (← e, not_true b h)
+  pub guard_unsound : not b ≡ true → Err Unsound ≡ guard p.slots p m
+  unfolding guard
+  guard_unsound h = rw (← e, not_true b h)
 
   module _ (h : not b ≡ false) where
-    pub cause_pool : (length m.pool ≡ p.capacity → ⊥) → 2 ≡ cause p.slots p m
-    unfolding cause misfit
-    cause_pool n = rw (← e, not_false b h, ne_eqb (length m.pool) p.capacity n)
+    pub guard_pool_length : (length m.pool ≡ p.capacity → ⊥) → Err WrongLength ≡ guard p.slots p m
+    unfolding guard misfit
+    guard_pool_length n = rw (← e, not_false b h, ne_eqb (length m.pool) p.capacity n)
 
     module _ (c : length m.pool ≡ p.capacity) where
-      pub cause_overflow : (length m.overflow ≡ p.overflow → ⊥) → 2 ≡ cause p.slots p m
-      unfolding cause misfit
-      cause_overflow n = rw (← e, not_false b h, eq-eqb (length m.pool) p.capacity c, ne_eqb (length m.overflow) p.overflow n)
+      pub guard_overflow_length : (length m.overflow ≡ p.overflow → ⊥) → Err WrongLength ≡ guard p.slots p m
+      unfolding guard misfit
+      guard_overflow_length n =
+          rw (← e, not_false b h, eq-eqb (length m.pool) p.capacity c, ne_eqb (length m.overflow) p.overflow n)
 
-      pub cause_none : length m.overflow ≡ p.overflow → 0 ≡ cause p.slots p m
-      unfolding cause misfit
-      cause_none o = rw (← e, not_false b h, eq-eqb (length m.pool) p.capacity c, eq-eqb (length m.overflow) p.overflow o)
+      pub guard_passes : length m.overflow ≡ p.overflow → Ok tt ≡ guard p.slots p m
+      unfolding guard misfit
+      guard_passes o = rw (← e, not_false b h, eq-eqb (length m.pool) p.capacity c, eq-eqb (length m.overflow) p.overflow o)
 
--- a guarded answer, by the cause's two tests: is the record sound, do the memories not fit
-abbrev pub number : Bool → Bool → ℕ
-number s f = pick (not s) 1 (pick f 2 0)
+-- a guarded answer, by the guard's two tests: is the record sound, do the memories not fit
+abbrev guard_by : Bool → Bool → Result ⊤ Refusal
+guard_by s f = pick (not s) (Err Unsound) (pick f (Err WrongLength) (Ok tt))
 
-pub guarded_by : {A : Type 0} (s f : Bool) (refuse : ℕ → A) (done : A)
-    → (number s f ≡ 0 → ⊥) → refuse (number s f) ≡ pick (not s) (refuse 1) (pick f (refuse 2) done)
-guarded_by true true refuse done n = refl
-guarded_by true false refuse done n = absurd (n refl)
-guarded_by false f refuse done n = refl
+abbrev is_refused : Result ⊤ Refusal → Bool
+is_refused (Ok x) = false
+is_refused (Err why) = true
 
-pub passed_by : {A : Type 0} (s f : Bool) (refuse : ℕ → A) (done : A) → number s f ≡ 0 → done ≡ pick (not s) (refuse 1) (pick f (refuse 2) done)
-passed_by true true refuse done e = absurd (omega arith)
+abbrev why_refused : Refusal → Result ⊤ Refusal → Refusal
+why_refused other (Ok x) = other
+why_refused other (Err why) = why
+
+guarded_by : {A : Type 0} (s f : Bool) (refuse : Refusal → A) (done : A) (why : Refusal) → Err why ≡ guard_by s f
+    → refuse why ≡ pick (not s) (refuse Unsound) (pick f (refuse WrongLength) done)
+guarded_by true true refuse done why e = ap refuse (ap (why_refused Unsound) e)
+guarded_by true false refuse done why e = absurd (no_true (sym (ap is_refused e)))
+guarded_by false f refuse done why e = ap refuse (ap (why_refused Unsound) e)
+
+passed_by : {A : Type 0} (s f : Bool) (refuse : Refusal → A) (done : A) → Ok tt ≡ guard_by s f
+    → done ≡ pick (not s) (refuse Unsound) (pick f (refuse WrongLength) done)
+passed_by true true refuse done e = absurd (no_true (ap is_refused e))
 passed_by true false refuse done e = refl
-passed_by false f refuse done e = absurd (omega arith)
+passed_by false f refuse done e = absurd (no_true (ap is_refused e))
 
-sound_by : (s f : Bool) → number s f ≡ 0 → s ≡ true
+sound_by : (s f : Bool) → Ok tt ≡ guard_by s f → s ≡ true
 sound_by true f e = refl
-sound_by false f e = absurd (omega arith)
+sound_by false f e = absurd (no_true (ap is_refused e))
 
-fits_by : (s f : Bool) → number s f ≡ 0 → f ≡ false
-fits_by true true e = absurd (omega arith)
+fits_by : (s f : Bool) → Ok tt ≡ guard_by s f → f ≡ false
+fits_by true true e = absurd (no_true (ap is_refused e))
 fits_by true false e = refl
-fits_by false f e = absurd (omega arith)
+fits_by false f e = absurd (no_true (ap is_refused e))
 
-module _ (p : BufferPool) (m : Memories) (k : ℕ) (e : k ≡ cause p.slots p m) where
+-- the exit of a `?`: the error is handed on as it is
+pub err_is : {A E : Type 0} (r : Result A E) (e : E) → IsErrAnd r (λ y. y ≡ e) → r ≡ Err e
+err_is (Ok x) e h = absurd h
+err_is (Err y) e h = ap (λ z. Err z) h
+
+module _ (p : BufferPool) (m : Memories) where
   -- a call that is turned away
-  pub turned_away : (k ≡ 0 → ⊥) → (destination : List ℕ) (c : Called) (done : Outcome) → c ≡ refused p k → outcome c m destination ≡ guarded_call p.slots p m destination done
-  unfolding cause
-  turned_away n destination c done f =
-      ap (λ (x : Called). outcome x m destination) (f ∙ ap (refused p) e)
-      ∙ guarded_by (sound p.slots p) (misfit p m) (λ number. outcome (refused p number) m destination) done (λ z. n (e ∙ z))
+  module _ (why : Refusal) (e : Err why ≡ guard p.slots p m) where
+    pub turned : {A : Type 0} (refuse : Refusal → A) (done : A) → refuse why ≡ guarded p.slots p m refuse done
+    unfolding guard
+    turned refuse done = guarded_by (sound p.slots p) (misfit p m) refuse done why e
 
-  module _ (z : k ≡ 0) where
-    -- a call that is not
+    pub turned_away : (destination : List ℕ) (done : Outcome) → outcome (refused p why) m destination ≡ guarded_call p.slots p m destination done
+    turned_away destination done = turned (λ x. outcome (refused p x) m destination) done
+
+  -- and one that is not
+  module _ (e : Ok tt ≡ guard p.slots p m) where
+    pub through : {A : Type 0} (refuse : Refusal → A) (done : A) → done ≡ guarded p.slots p m refuse done
+    unfolding guard
+    through refuse done = passed_by (sound p.slots p) (misfit p m) refuse done e
+
     pub let_through : (destination : List ℕ) (o done : Outcome) → o ≡ done → o ≡ guarded_call p.slots p m destination done
-    unfolding cause
-    let_through destination o done f =
-        f ∙ passed_by (sound p.slots p) (misfit p m) (λ number. outcome (refused p number) m destination) done (sym e ∙ z)
+    let_through destination o done f = f ∙ through (λ x. outcome (refused p x) m destination) done
 
     pub through_sound : sound p.slots p ≡ true
-    unfolding cause
-    through_sound = sound_by (sound p.slots p) (misfit p m) (sym e ∙ z)
+    unfolding guard
+    through_sound = sound_by (sound p.slots p) (misfit p m) e
 
     pub through_orderly : Orderly p.slots p
     through_orderly = (sound_use p.slots p through_sound).orderly
@@ -110,13 +132,13 @@ module _ (p : BufferPool) (m : Memories) (k : ℕ) (e : k ≡ cause p.slots p m)
     through_back = through_orderly.ready.back_within
 
     pub through_pool : length m.pool ≡ p.capacity
-    unfolding cause misfit
-    through_pool = eqb-true (length m.pool) p.capacity (both_true _ _ (not_false _ (fits_by (sound p.slots p) (misfit p m) (sym e ∙ z)))).0
+    unfolding guard misfit
+    through_pool = eqb-true (length m.pool) p.capacity (both_true _ _ (not_false _ (fits_by (sound p.slots p) (misfit p m) e))).0
 
     pub through_overflow : length m.overflow ≡ p.overflow
-    unfolding cause misfit
+    unfolding guard misfit
     through_overflow =
-        eqb-true (length m.overflow) p.overflow (both_true (eqb (length m.pool) p.capacity) _ (not_false _ (fits_by (sound p.slots p) (misfit p m) (sym e ∙ z)))).1
+        eqb-true (length m.overflow) p.overflow (both_true (eqb (length m.pool) p.capacity) _ (not_false _ (fits_by (sound p.slots p) (misfit p m) e))).1
 
 -- ---- What a call knows of a record that is not turned away
 
@@ -148,19 +170,19 @@ unfolding zeroed
 all_zeroed l = rw (drop_of_length-le l (le_refl (length l)), append-nil, sub-zero)
 
 module _ (w : ℕ) (pool overflow : List ℕ) (b : Bool) (i : b ≡ is_slot_count w) where
-  pub new_other_count : not b ≡ true → (c : Called) → c ≡ new_refused_by 16
+  pub new_other_count : not b ≡ true → (c : Called) → c ≡ new_refused_by WrongSlotCount
       → outcome c (memories pool overflow) [] ≡ new w (memories pool overflow)
   unfolding new
   new_other_count j c e = rw (e, ← i, not_true b j)
 
   module _ (j : not b ≡ false) where
-    pub new_pool_long : 1048576 < length pool → (c : Called) → c ≡ new_refused_by 3
+    pub new_pool_long : 1048576 < length pool → (c : Called) → c ≡ new_refused_by MemoryTooLong
         → outcome c (memories pool overflow) [] ≡ new w (memories pool overflow)
     unfolding new
     new_pool_long h c e = rw (e, ← i, not_false b j, lt-ltb 1048576 (length pool) h)
 
     module _ (h : length pool ≤ 1048576) where
-      pub new_overflow_long : 1048576 < length overflow → (c : Called) → c ≡ new_refused_by 3
+      pub new_overflow_long : 1048576 < length overflow → (c : Called) → c ≡ new_refused_by MemoryTooLong
           → outcome c (memories pool overflow) [] ≡ new w (memories pool overflow)
       unfolding new
       new_overflow_long k c e =
@@ -168,7 +190,7 @@ module _ (w : ℕ) (pool overflow : List ℕ) (b : Bool) (i : b ≡ is_slot_coun
 
       pub new_done_lem : length overflow ≤ 1048576 → (cleared : List ℕ) → cleared ≡ zeroed pool 0 (length pool)
           → (q : BufferPool) → q ≡ new_record w (length pool) (length overflow)
-          → outcome (record { pool = q; answer = Done }) (memories cleared overflow) [] ≡ new w (memories pool overflow)
+          → outcome (record { pool = q; answer = Ok Done }) (memories cleared overflow) [] ≡ new w (memories pool overflow)
       unfolding new
       new_done_lem k cleared z q e =
           rw (z, e, ← i, not_false b j, le-ltb 1048576 (length pool) h, le-ltb 1048576 (length overflow) k, all_zeroed pool)

@@ -10,6 +10,7 @@ use lib.Dec.{leb, ltb, eqb}
 use lib.ListN.{length, get_or, set, take, replicate, length-take}
 use lib.Seq.{length-take-le, get_or-take}
 use borrow.Author.Tests.{le-leb, lt-leb, ltb-true, leb-true, leb-false}
+use Rattle.std.specs.Prelude.{Ok}
 use Rattle.laws.specs.Tests.{pick, implies}
 use Rattle.laws.specs.Live.{live_at, last_live, lives}
 use Rattle.laws.proofs.Tests.{leb_and, ltb_and, every_same}
@@ -20,6 +21,7 @@ use Rattle.buffer_pool.specs.declared.buffer_pool.PoolMode.{PoolMode}
 use Rattle.buffer_pool.specs.declared.buffer_pool.PoolMode.TheVariants.{Back, Front, Alloc}
 use Rattle.buffer_pool.specs.declared.buffer_pool.Answer.TheVariants.{Done, Taken}
 use Rattle.buffer_pool.specs.declared.buffer_pool.Called.{Called}
+use Rattle.buffer_pool.specs.declared.refusals.Refusal.TheVariants.{Unsound, WrongLength, CommitTooLong, NotLive}
 use Rattle.buffer_pool.specs.Record.{caller_count, start_at, after, cut}
 use Rattle.buffer_pool.specs.Soundness.{shaped, limited, counted, rising, framed_within, back_numbers, back_sound, front_numbers, besides, front_sound, alloc_sound, mode_sound, orderly, sound}
 use Rattle.buffer_pool.specs.Sound.{Orderly}
@@ -307,8 +309,8 @@ unfolding commit_step
 commit_cut w r n = go (ltb r.reserved n) r.mode
   where
     go : (b : Bool) (mode : PoolMode)
-        → pick b (refused (cut w r) 5) (reframed (resized mode (cut w r) ((frame_of mode (cut w r)).length + n)))
-        ≡ cut_called w (pick b (refused r 5) (reframed (resized mode r ((frame_of mode r).length + n))))
+        → pick b (refused (cut w r) CommitTooLong) (reframed (resized mode (cut w r) ((frame_of mode (cut w r)).length + n)))
+        ≡ cut_called w (pick b (refused r CommitTooLong) (reframed (resized mode r ((frame_of mode r).length + n))))
     go true mode = refl
     go false Back = refl
     go false (Front f) = refl
@@ -338,9 +340,9 @@ take_cut : (w : ℕ) (r : BufferPool) (caller d : ℕ) → take_step w (cut w r)
 unfolding take_step take_on
 take_cut w r caller d = go r.mode (leb caller_count caller) (leb most_serials (given_to r caller))
   where
-    pooled_cut : (mode : PoolMode) (n : ℕ) → called (handed_out w caller (cut w r) mode n) (Taken (next_handle r caller))
-        ≡ cut_called w (called (handed_out w caller r mode n) (Taken (next_handle r caller)))
-    pooled_cut mode n = ap (λ (q : BufferPool). called q (Taken (next_handle r caller))) (handed_cut w caller r mode n)
+    pooled_cut : (mode : PoolMode) (n : ℕ) → called (handed_out w caller (cut w r) mode n) (Ok (Taken (next_handle r caller)))
+        ≡ cut_called w (called (handed_out w caller r mode n) (Ok (Taken (next_handle r caller))))
+    pooled_cut mode n = ap (λ (q : BufferPool). called q (Ok (Taken (next_handle r caller)))) (handed_cut w caller r mode n)
 
     on : (none empty long spent : Bool) (mode : PoolMode)
         → take_on none empty long spent mode w caller (cut w r) ≡ cut_called w (take_on none empty long spent mode w caller r)
@@ -389,8 +391,8 @@ release_cut : (w : ℕ) (r : BufferPool) (h : Handle) → release_step w (cut w 
 unfolding release_step
 release_cut w r h = rw (names_cut w r h) (go (names w r h))
   where
-    go : (b : Bool) → pick b (called (freed w (cut w r) h.slot) Done) (refused (cut w r) 7)
-        ≡ cut_called w (pick b (called (freed w r h.slot) Done) (refused r 7))
+    go : (b : Bool) → pick b (called (freed w (cut w r) h.slot) (Ok Done)) (refused (cut w r) NotLive)
+        ≡ cut_called w (pick b (called (freed w r h.slot) (Ok Done)) (refused r NotLive))
     go true = refl
     go false = refl
 
@@ -419,8 +421,8 @@ module _ (w : ℕ) (r : BufferPool) (m : Memories) where
   guarded_cut destination o' o e = rw (sound_cut w r) (go (sound w r) refl (misfit r m))
     where
       go : (s : Bool) → sound w r ≡ s → (f : Bool)
-          → pick (not s) (outcome (refused (cut w r) 1) m destination) (pick f (outcome (refused (cut w r) 2) m destination) o')
-          ≡ cut_outcome w (pick (not s) (outcome (refused r 1) m destination) (pick f (outcome (refused r 2) m destination) o))
+          → pick (not s) (outcome (refused (cut w r) Unsound) m destination) (pick f (outcome (refused (cut w r) WrongLength) m destination) o')
+          ≡ cut_outcome w (pick (not s) (outcome (refused r Unsound) m destination) (pick f (outcome (refused r WrongLength) m destination) o))
       go false t f = refl
       go true t true = refl
       go true t false = e t

@@ -1,15 +1,15 @@
 -- A frame in the overflow, one call of `reserve_`, the reservation at its end and the recursion, from what the code of placing.rt knows
 -- where it returns. Assumes nothing.
 use mathlib.Core.Path.{◌≡◌, refl, sym, ap, ◌∙◌, subst}
+use Rattle.std.specs.Prelude.{Option, Some, None}
 use mathlib.Core.Bool.{Bool, true, false, not}
 use mathlib.Core.List.{List, [], ◌++◌, append_assoc, append-nil}
+use mathlib.Core.Logic.{◌⊎◌, inl, inr}
 use Prim.Native.Nat.{ℕ, zero, suc, ◌+◌, ◌-◌, ◌≤◌, ◌<◌, max}
 use native.Mathlib.Nat.{add-zero, le_refl}
 use native.Mathlib.Omega.{arith}
-use mir.Val.{Fits}
-use mir.Syntax.{w64}
 use lib.Dec.{leb, ltb}
-use borrow.Author.Tests.{lt-ltb, le-ltb, eq-eqb, ne_eqb, leb-true, leb-false, ltb-true, ltb-false}
+use borrow.Author.Tests.{lt-ltb, le-ltb, leb-true, leb-false, ltb-true, ltb-false}
 use lib.Count.{leading_le}
 use Rattle.laws.specs.Tests.{pick}
 use Rattle.laws.proofs.Tests.{no_true, not_true, not_false}
@@ -19,37 +19,24 @@ use Rattle.buffer_pool.specs.declared.buffer_pool.PoolMode.{PoolMode}
 use Rattle.buffer_pool.specs.declared.buffer_pool.PoolMode.TheVariants.{Back, Front, Alloc}
 use Rattle.buffer_pool.specs.declared.numbers.Numbers.{Numbers}
 use Rattle.buffer_pool.specs.declared.route.Route.{Route}
-use Rattle.buffer_pool.specs.declared.placing.Cleared.{Cleared}
+use Rattle.buffer_pool.specs.declared.placing.ModeChange.{ModeChange}
+use Rattle.buffer_pool.specs.declared.placing.ModeChange.TheVariants.{Stays, Changes, GoesOut}
 use Rattle.buffer_pool.specs.declared.placing.ModeStep.{ModeStep}
 use Rattle.buffer_pool.specs.declared.placing.Decided.{Decided}
 use Rattle.buffer_pool.specs.Record.{framed}
 use Rattle.buffer_pool.specs.Numbers.{numbers_of, plain, bare}
 use Rattle.buffer_pool.specs.Moves.{Move}
 use Rattle.buffer_pool.specs.Placing.{Decision, Layer, stay, change, finish, first, grows, resolve_on, to_alloc, clearable, tail_fits, tail_cleared, head_fits, head_cleared, stays, back_on, front_cleared, leave_on, front_on, alloc_on, place_of, back_layer, front_layer, alloc_layer, layer, is_alloc, is_too_long}
-use Rattle.buffer_pool.specs.Deciding.{front_len_of, Placeable, Reaches, Decides, cleared_on, step, layer_of, step_moves, route_moves, onward, decided, decision_of, finished, finished_on, following}
+use Rattle.buffer_pool.specs.Deciding.{front_len_of, Placeable, Reaches, Decides, cleared_on, step, is_again, is_out, layer_of, step_moves, route_moves, onward, decided, decision_of, finished, finished_on, following}
 use Rattle.buffer_pool.specs.Sound.{InMode}
 use Rattle.buffer_pool.proofs.Order.{last_held}
 use Rattle.buffer_pool.proofs.Parts.{ready_worded}
 use Rattle.buffer_pool.proofs.BackLaws.{clearable_is_full}
-use Rattle.buffer_pool.proofs.LayerLaws.{within_same, within_empty, clearable_plain, head_plain, layer_still, cleared_true, cleared_false}
+use Rattle.buffer_pool.proofs.LayerLaws.{within_same, within_empty, clearable_plain, head_plain, layer_still, cleared_some, cleared_none}
 use Rattle.buffer_pool.proofs.RouteLaws.{onward_moves, onward_reaches}
 use Rattle.buffer_pool.proofs.ReserveKept.{Fit, stays_not}
 
 -- ---- A frame in the overflow
-
-module _ (n : Numbers) where
-  pub stays_with_frame : 0 < n.cursor → true ≡ stays n.slots false (bare n)
-  unfolding stays
-  stays_with_frame h = rw (lt-ltb 0 n.cursor h)
-
-  module _ (z : n.cursor ≤ 0) where
-    pub stays_without_back : n.back_len ≡ 0 → true ≡ stays n.slots false (bare n)
-    unfolding stays
-    stays_without_back h = rw (le-ltb 0 n.cursor z, eq-eqb n.back_len 0 h)
-
-    pub stays_by_tail : (n.back_len ≡ 0 → ⊥) → (c : Bool) → c ≡ clearable n.slots (bare n) → not c ≡ stays n.slots false (bare n)
-    unfolding stays
-    stays_by_tail h c g = rw (le-ltb 0 n.cursor z, ne_eqb n.back_len 0 h, g)
 
 module _ (n : Numbers) (b : Bool) (e : b ≡ stays n.slots false (bare n)) where
   pub gives_way_clearable : b ≡ false → clearable n.slots (bare n) ≡ true
@@ -65,60 +52,46 @@ module _ (n : Numbers) (b : Bool) (e : b ≡ stays n.slots false (bare n)) where
 
     -- the overflow's frame is none of the pool's
     module _ (z : n.raw_len ≡ 0) where
-      changes_to : (q : Numbers) → m ≡ step true false n.raw_offset q → layer_of S L n m ≡ change false (plain q S L) []
-      changes_to q f = layer_still S L n m true q f (within_empty n.raw_offset n.raw_len q.raw_offset z)
+      changes_to : (q : Numbers) → m ≡ step Changes n.raw_offset q → layer_of S L n m ≡ change false (plain q S L) []
+      changes_to q f = layer_still S L n m Changes refl q f (within_empty n.raw_offset n.raw_len q.raw_offset z)
 
-    keeps_it : m ≡ step false false n.raw_offset n → layer_of S L n m ≡ stay n.mode (plain n S L) []
-    keeps_it f = layer_still S L n m false n f (within_same n.raw_offset n.raw_len n.raw_offset refl)
+    keeps_it : m ≡ step Stays n.raw_offset n → layer_of S L n m ≡ stay n.mode (plain n S L) []
+    keeps_it f = layer_still S L n m Stays refl n f (within_same n.raw_offset n.raw_len n.raw_offset refl)
 
-    pub alloc_keeps : n.mode ≡ Alloc → b ≡ true → m ≡ step false false n.raw_offset n
+    pub alloc_keeps : n.mode ≡ Alloc → b ≡ true → m ≡ step Stays n.raw_offset n
         → layer_of S L n m ≡ alloc_layer n.slots false (plain n S L) len
     unfolding alloc_layer alloc_on
     alloc_keeps h t f = keeps_it f ∙ rw (← stays_is, t, h)
 
-    module _ (o : b ≡ false) (t : Cleared)
-        (i : t ≡ cleared_on (tail_fits n.slots (plain n S L) len) (numbers_of (tail_cleared n.slots (plain n S L))) n) where
-      pub alloc_clears_tail : n.raw_len ≡ 0 → t.cleared ≡ true → m ≡ step true false n.raw_offset t.numbers
-          → layer_of S L n m ≡ alloc_layer n.slots false (plain n S L) len
+    module _ (o : b ≡ false) where
+      pub alloc_clears_tail : n.raw_len ≡ 0 → (t : Numbers)
+          → Some t ≡ cleared_on (tail_fits n.slots (plain n S L) len) (numbers_of (tail_cleared n.slots (plain n S L)))
+          → m ≡ step Changes n.raw_offset t → layer_of S L n m ≡ alloc_layer n.slots false (plain n S L) len
       unfolding alloc_layer alloc_on
-      alloc_clears_tail z k f =
-          let x = cleared_true (tail_fits n.slots (plain n S L) len) (numbers_of (tail_cleared n.slots (plain n S L))) n t i k in
-          changes_to z t.numbers f ∙ rw (x.1, ← stays_is, o, x.0)
+      alloc_clears_tail z t i f =
+          let x = cleared_some (tail_fits n.slots (plain n S L) len) (numbers_of (tail_cleared n.slots (plain n S L))) t i in
+          changes_to z t f ∙ rw (x.1, ← stays_is, o, x.0)
 
-      module _ (j : t.cleared ≡ false) (u : Cleared)
-          (v : u ≡ cleared_on (head_fits n.slots (plain n S [])) (numbers_of (head_cleared n.slots (plain n S []))) n) where
+      module _ (i : None ≡ cleared_on (tail_fits n.slots (plain n S L) len) (numbers_of (tail_cleared n.slots (plain n S L)))) where
         no_tail : tail_fits n.slots (plain n S L) len ≡ false
-        no_tail = cleared_false (tail_fits n.slots (plain n S L) len) (numbers_of (tail_cleared n.slots (plain n S L))) n t i j
+        no_tail = cleared_none (tail_fits n.slots (plain n S L) len) (numbers_of (tail_cleared n.slots (plain n S L))) i
 
-        pub alloc_clears_head : n.raw_len ≡ 0 → u.cleared ≡ true → m ≡ step true false n.raw_offset u.numbers
-            → layer_of S L n m ≡ alloc_layer n.slots false (plain n S L) len
+        pub alloc_clears_head : n.raw_len ≡ 0 → (u : Numbers)
+            → Some u ≡ cleared_on (head_fits n.slots (plain n S [])) (numbers_of (head_cleared n.slots (plain n S [])))
+            → m ≡ step Changes n.raw_offset u → layer_of S L n m ≡ alloc_layer n.slots false (plain n S L) len
         unfolding alloc_layer alloc_on
-        alloc_clears_head z k f =
-            let x = cleared_true (head_fits n.slots (plain n S L)) (numbers_of (head_cleared n.slots (plain n S L))) n u (v ∙ head_plain n S L) k in
-            changes_to z u.numbers f ∙ rw (x.1, ← stays_is, o, no_tail, x.0)
+        alloc_clears_head z u v f =
+            let x = cleared_some (head_fits n.slots (plain n S L)) (numbers_of (head_cleared n.slots (plain n S L))) u (v ∙ head_plain n S L) in
+            changes_to z u f ∙ rw (x.1, ← stays_is, o, no_tail, x.0)
 
-        pub alloc_stays : n.mode ≡ Alloc → u.cleared ≡ false → m ≡ step false false n.raw_offset n
-            → layer_of S L n m ≡ alloc_layer n.slots false (plain n S L) len
+        pub alloc_stays : n.mode ≡ Alloc → None ≡ cleared_on (head_fits n.slots (plain n S [])) (numbers_of (head_cleared n.slots (plain n S [])))
+            → m ≡ step Stays n.raw_offset n → layer_of S L n m ≡ alloc_layer n.slots false (plain n S L) len
         unfolding alloc_layer alloc_on
-        alloc_stays h k f =
-            let x = cleared_false (head_fits n.slots (plain n S L)) (numbers_of (head_cleared n.slots (plain n S L))) n u (v ∙ head_plain n S L) k in
+        alloc_stays h v f =
+            let x = cleared_none (head_fits n.slots (plain n S L)) (numbers_of (head_cleared n.slots (plain n S L))) (v ∙ head_plain n S L) in
             keeps_it f ∙ rw (← stays_is, o, no_tail, x, h)
 
 -- ---- One call of `reserve_`, by the mode
-
-module _ (n : Numbers) (P : Placeable n.slots (bare n)) where
-  pub back_cursor : n.mode ≡ Back → n.cursor ≡ 0
-  back_cursor h = P.no_cursor (rw h)
-
-  pub alloc_empty : n.mode ≡ Alloc → n.raw_len ≡ 0
-  alloc_empty h = P.no_len (rw h)
-
-  module _ (f : PoolFront) where
-    pub front_cursor : n.mode ≡ Front f → n.cursor ≡ 0
-    front_cursor h = P.no_cursor (rw h)
-
-    pub front_slots_lem : n.mode ≡ Front f → f.len ≤ n.slots
-    front_slots_lem h = rw h at P.front_within
 
 module _ (n : Numbers) (S L : List ℕ) (len : ℕ) (l : Layer) where
   pub layer_back : n.mode ≡ Back → l ≡ back_layer n.slots (plain n S L) len → l ≡ layer n.slots false n.mode (plain n S L) len
@@ -137,31 +110,26 @@ module _ (n : Numbers) (S L : List ℕ) (len : ℕ) (l : Layer) where
 
 module _ (n : Numbers) (g : Route) (changes len : ℕ) where
   pub finished_in_pool : (q : Numbers) → q ≡ numbers_of (framed (bare n) n.mode n.raw_offset n.raw_len n.kept n.cursor len)
-      → decided false q changes n.kept g ≡ finished_on Back n g changes len
+      → Some (decided q changes n.kept g) ≡ finished_on Back n g changes len
   unfolding finished_on
   finished_in_pool q e = rw e
 
   module _ (b : Bool) (e : b ≡ leb (n.cursor + len + 0) n.overflow) where
-    pub overflow_short : not b ≡ true → decided true n changes n.kept g ≡ finished_on Alloc n g changes len
+    pub overflow_short : not b ≡ true → None ≡ finished_on Alloc n g changes len
     unfolding finished_on
     overflow_short h = rw (← e, not_true b h)
 
     pub overflow_fits : not b ≡ false → (end : ℕ) → end ≡ max n.kept (n.cursor + len) → (q : Numbers)
         → q ≡ numbers_of (framed (bare n) Alloc n.raw_offset n.raw_len end n.cursor len)
-        → decided false q changes n.kept g ≡ finished_on Alloc n g changes len
+        → Some (decided q changes n.kept g) ≡ finished_on Alloc n g changes len
     unfolding finished_on
     overflow_fits h end k q f = rw (f, k, ← e, not_false b h)
 
-    pub overflow_end : not b ≡ false → Fits w64 n.overflow → Fits w64 (n.cursor + len)
-    overflow_end h a = record { fits = omega (arith, a.fits, leb-true (n.cursor + len + 0) n.overflow (sym e ∙ not_false b h)) }
-
-  module _ (c : Decided) where
-    pub finish_back : n.mode ≡ Back → c ≡ finished_on Back n g changes len → c ≡ finished_on n.mode n g changes len
-    finish_back h e = e ∙ ap (λ (x : PoolMode). finished_on x n g changes len) (sym h)
-
-    pub finish_front : (f : PoolFront) → n.mode ≡ Front f → c ≡ finished_on Back n g changes len → c ≡ finished_on n.mode n g changes len
+  module _ (c : Option Decided) where
+    pub finish_pool : (n.mode ≡ Back) ⊎ ((f : PoolFront) × (n.mode ≡ Front f)) → c ≡ finished_on Back n g changes len → c ≡ finished_on n.mode n g changes len
     unfolding finished_on
-    finish_front f h e = e ∙ ap (λ (x : PoolMode). finished_on x n g changes len) (sym h)
+    finish_pool (inl h) e = e ∙ ap (λ (x : PoolMode). finished_on x n g changes len) (sym h)
+    finish_pool (inr (f, h)) e = e ∙ ap (λ (x : PoolMode). finished_on x n g changes len) (sym h)
 
     pub finish_alloc : n.mode ≡ Alloc → c ≡ finished_on Alloc n g changes len → c ≡ finished_on n.mode n g changes len
     finish_alloc h e = e ∙ ap (λ (x : PoolMode). finished_on x n g changes len) (sym h)
@@ -175,30 +143,38 @@ module _ (n : Numbers) (S L : List ℕ) (g : Route) (changes len : ℕ) where
       go true e = let z : max kept end ≡ end = omega (arith, ltb-true kept end e) in rw (z, e) refl
       go false e = let z : max kept end ≡ kept = omega (arith, ltb-false kept end e) in rw (z, le-ltb kept kept (le_refl kept)) refl
 
+  some_decides : (x : Decided) (d : Decision) → is_too_long d len ≡ false → decision_of S L x ≡ d → Decides S L (Some x) d len
+  some_decides x d t e =
+      record {
+        too_long = λ q. absurd (cc);
+        fits = λ y q. t;
+        decision = λ y q. let z : y ≡ x = cc in ap (decision_of S L) z ∙ e;
+      }
+
+  none_decides : (d : Decision) → is_too_long d len ≡ true → Decides S L None d len
+  none_decides d t = record { too_long = λ q. t; fits = λ y q. absurd (cc); decision = λ y q. absurd (cc) }
+
   overflow_decides : (b : Bool) → leb (n.cursor + len + 0) n.overflow ≡ b → n.mode ≡ Alloc
       → Decides S L
-      (pick b (decided false (numbers_of (framed (bare n) Alloc n.raw_offset n.raw_len (max n.kept (n.cursor + len)) n.cursor len)) changes n.kept g)
-      (decided true n changes n.kept g))
+      (pick b (Some (decided (numbers_of (framed (bare n) Alloc n.raw_offset n.raw_len (max n.kept (n.cursor + len)) n.cursor len)) changes n.kept g)) None)
       (following (route_moves g) changes (finish Alloc (plain n S L) [] len)) len
   unfolding is_too_long following decision_of
   overflow_decides true e h =
-      record {
-        too_long = sym (le-ltb n.overflow (n.cursor + len) (omega (arith, leb-true (n.cursor + len + 0) n.overflow e)));
-        decision = λ _. rw (grown n.kept (n.cursor + len), add-zero changes);
-      }
+      some_decides _ _
+      (le-ltb n.overflow (n.cursor + len) (omega (arith, leb-true (n.cursor + len + 0) n.overflow e)))
+      (rw (grown n.kept (n.cursor + len), add-zero changes))
   overflow_decides false e h =
-      let l = lt-ltb n.overflow (n.cursor + len) (omega (arith, leb-false (n.cursor + len + 0) n.overflow e)) in
-      record { too_long = sym l; decision = λ q. absurd (no_true (sym q ∙ l)) }
+      none_decides _ (lt-ltb n.overflow (n.cursor + len) (omega (arith, leb-false (n.cursor + len + 0) n.overflow e)))
 
   finishes : (mode : PoolMode) → n.mode ≡ mode → Decides S L (finished_on mode n g changes len) (following (route_moves g) changes (finish mode (plain n S L) [] len)) len
   unfolding is_too_long following decision_of finished_on
   finishes Back h =
-      record { too_long = refl; decision = λ _. rw (h, le-ltb n.kept n.kept (le_refl n.kept), append-nil (route_moves g), add-zero changes) }
+      some_decides _ _ refl (rw (h, le-ltb n.kept n.kept (le_refl n.kept), append-nil (route_moves g), add-zero changes))
   finishes (Front f) h =
-      record { too_long = refl; decision = λ _. rw (h, le-ltb n.kept n.kept (le_refl n.kept), append-nil (route_moves g), add-zero changes) }
+      some_decides _ _ refl (rw (h, le-ltb n.kept n.kept (le_refl n.kept), append-nil (route_moves g), add-zero changes))
   finishes Alloc h = overflow_decides (leb (n.cursor + len + 0) n.overflow) refl h
 
-  pub finish_decides : (c : Decided) → c ≡ finished_on n.mode n g changes len → Decides S L c (following (route_moves g) changes (finished (plain n S L) len)) len
+  pub finish_decides : (c : Option Decided) → c ≡ finished_on n.mode n g changes len → Decides S L c (following (route_moves g) changes (finished (plain n S L) len)) len
   unfolding finished
   finish_decides c e = rw e (finishes n.mode refl)
 
@@ -383,6 +359,11 @@ following_first : (before moves : List Move) (changes : ℕ) (d : Decision) → 
 unfolding following
 following_first before moves changes d = rw append_assoc
 
+-- where the code says which way it goes
+way_of : (g : Route) (changes : ℕ) (s : ModeStep) (x : ModeChange) → s.change ≡ x
+    → onward g changes s.via (is_out x) (pick (is_out x) s.via s.numbers.raw_offset) ≡ onward g changes s.via (is_out s.change) (pick (is_out s.change) s.via s.numbers.raw_offset)
+way_of g changes s x t = ap (λ (x : ModeChange). onward g changes s.via (is_out x) (pick (is_out x) s.via s.numbers.raw_offset)) (sym t)
+
 -- the layer's parts, as the code's step has them
 module _ (n : Numbers) (S L : List ℕ) (len : ℕ) (s : ModeStep) (e : layer_of S L n s ≡ layer n.slots false n.mode (plain n S L) len) where
   abbrev l : Layer
@@ -392,11 +373,11 @@ module _ (n : Numbers) (S L : List ℕ) (len : ℕ) (s : ModeStep) (e : layer_of
   unfolding layer_of
   moves_is = ap (λ (x : Layer). x.moves) e
 
-  again_is : s.again ≡ l.again
+  again_is : is_again s.change ≡ l.again
   unfolding layer_of
   again_is = ap (λ (x : Layer). x.again) e
 
-  entered_is : s.entered ≡ l.entered
+  entered_is : is_out s.change ≡ l.entered
   unfolding layer_of
   entered_is = ap (λ (x : Layer). x.entered) e
 
@@ -420,61 +401,67 @@ module _ (n : Numbers) (S L : List ℕ) (len : ℕ) (s : ModeStep) (e : layer_of
     pub step_placeable : Placeable s.numbers.slots (bare s.numbers)
     step_placeable = subst (λ (w : ℕ). Placeable w (bare s.numbers)) (sym slots_is) (placeable_bare n.slots s.numbers S L next)
 
-  pub step_alloc : s.entered ≡ true → s.numbers.mode ≡ Alloc
+  step_alloc : is_out s.change ≡ true → s.numbers.mode ≡ Alloc
   step_alloc t = ap (λ (r : BufferPool). r.mode) pool_is ∙ (layer_goes n.slots (plain n S L) len n.mode).mode_is (sym entered_is ∙ t)
 
   -- the way after the step
-  module _ (g : Route) (changes : ℕ) (entered : Bool) (K : entered ≡ false → changes < 2 → Reaches g changes n) (u : entered ≡ false) (k : changes < 2)
-      (on : Route) (i : on ≡ onward g changes s.via s.entered (pick s.entered s.via s.numbers.raw_offset)) where
+  module _ (g : Route) (changes : ℕ) (K : changes < 2 → Reaches g changes n) (k : changes < 2)
+      (on : Route) (i : on ≡ onward g changes s.via (is_out s.change) (pick (is_out s.change) s.via s.numbers.raw_offset)) where
     on_moves : route_moves on ≡ route_moves g ++ l.moves
-    on_moves = onward_moves g changes n (K u k) s on i ∙ ap (λ (x : List Move). route_moves g ++ x) moves_is
+    on_moves = onward_moves g changes n (K k) s on i ∙ ap (λ (x : List Move). route_moves g ++ x) moves_is
 
-    pub step_reaches : s.entered ≡ false → changes + 1 < 2 → Reaches on (changes + 1) s.numbers
+    step_reaches : is_out s.change ≡ false → changes + 1 < 2 → Reaches on (changes + 1) s.numbers
     step_reaches t j =
-        onward_reaches g changes n (K u k) s (omega (arith, j)) t
+        onward_reaches g changes n (K k) s (omega (arith, j)) t
         (ap (λ (r : BufferPool). r.raw_len) pool_is ∙ (layer_goes n.slots (plain n S L) len n.mode).length_is (sym entered_is ∙ t)) on i
 
-module _ (n : Numbers) (S L : List ℕ) (entered : Bool) (g : Route) (changes left len : ℕ) (c : Decided) where
-  abbrev Whole : Type 0
-  Whole = Decides S L c (following (route_moves g) changes (place_of n.slots left entered n.mode (plain n S L) len)) len
+  pub reaches_again : (g : Route) (changes : ℕ) → (changes < 2 → Reaches g changes n) → (on : Route) → s.change ≡ Changes
+      → on ≡ onward g changes s.via false s.numbers.raw_offset → changes + 1 < 2 → Reaches on (changes + 1) s.numbers
+  reaches_again g changes K on t i j =
+      step_reaches g changes K (omega (arith, j)) on (i ∙ way_of g changes s Changes t) (ap is_out t) j
 
-  pub no_change_left : left ≡ 0 → c ≡ finished_on n.mode n g changes len → Whole
+module _ (n : Numbers) (S L : List ℕ) (g : Route) (changes left len : ℕ) (c : Option Decided) where
+  abbrev Whole : Bool → Type 0
+  Whole entered = Decides S L c (following (route_moves g) changes (place_of n.slots left entered n.mode (plain n S L) len)) len
+
+  pub no_change_left : left ≡ 0 → c ≡ finished_on n.mode n g changes len → Whole false
   unfolding place_of finished
   no_change_left z e = rw z (finish_decides n S L g changes len c e)
 
   -- A keeps a frame that entered it just now
-  pub just_entered : entered ≡ true → (entered ≡ true → n.mode ≡ Alloc) → c ≡ finished_on n.mode n g changes len → Whole
+  just_entered : n.mode ≡ Alloc → c ≡ finished_on n.mode n g changes len → Whole true
   unfolding place_of finished layer alloc_layer alloc_on stays
-  just_entered t h e =
-      subst (λ (d : Decision). Decides S L c (following (route_moves g) changes d) len) (go left n.mode (h t)) (finish_decides n S L g changes len c e)
+  just_entered h e =
+      subst (λ (d : Decision). Decides S L c (following (route_moves g) changes d) len) (go left n.mode h) (finish_decides n S L g changes len c e)
     where
-      go : (k : ℕ) (mode : PoolMode) → mode ≡ Alloc → finish mode (plain n S L) [] len ≡ place_of n.slots k entered mode (plain n S L) len
+      go : (k : ℕ) (mode : PoolMode) → mode ≡ Alloc → finish mode (plain n S L) [] len ≡ place_of n.slots k true mode (plain n S L) len
       go zero mode a = refl
-      go (suc k) mode a = rw (a, t) refl
+      go (suc k) mode a = rw a refl
 
-  module _ (o : left ≡ 0 → ⊥) (T : changes + left ≡ 2) (K : entered ≡ false → changes < 2 → Reaches g changes n) (u : entered ≡ false)
-      (s : ModeStep) (e : layer_of S L n s ≡ layer n.slots false n.mode (plain n S L) len)
-      (on : Route) (i : on ≡ onward g changes s.via s.entered (pick s.entered s.via s.numbers.raw_offset)) where
-    abbrev m : Layer
-    m = layer n.slots false n.mode (plain n S L) len
+module _ (n : Numbers) (S L : List ℕ) (g : Route) (changes left len : ℕ) (c : Option Decided)
+    (o : left ≡ 0 → ⊥) (T : changes + left ≡ 2) (K : changes < 2 → Reaches g changes n)
+    (s : ModeStep) (e : layer_of S L n s ≡ layer n.slots false n.mode (plain n S L) len) where
+  abbrev m : Layer
+  m = layer n.slots false n.mode (plain n S L) len
 
+  -- one layer of the definition
+  unfolds : (again : Bool) → m.again ≡ again → (k : ℕ) → left ≡ suc k
+      → place_of n.slots left false n.mode (plain n S L) len ≡ resolve_on (λ e q. place_of n.slots k e q.mode q len) again m len
+  unfolding place_of
+  unfolds again t k z = rw (z, t)
+
+  module _ (on : Route) (i : on ≡ onward g changes s.via (is_out s.change) (pick (is_out s.change) s.via s.numbers.raw_offset)) where
     way : route_moves on ≡ route_moves g ++ m.moves
-    way = on_moves n S L len s e g changes entered K u (omega (arith, T, o)) on i
+    way = on_moves n S L len s e g changes K (omega (arith, T, o)) on i
 
-    -- one layer of the definition
-    unfolds : (again : Bool) → m.again ≡ again → (k : ℕ) → left ≡ suc k
-        → place_of n.slots left entered n.mode (plain n S L) len ≡ resolve_on (λ e q. place_of n.slots k e q.mode q len) again m len
-    unfolding place_of
-    unfolds again t k z = rw (z, u, t)
-
-    follows : (k : ℕ) → left ≡ suc k → s.again ≡ true
-        → following (route_moves on) (changes + 1) (place_of n.slots (left - 1) s.entered s.numbers.mode (plain s.numbers S L) len)
-        ≡ following (route_moves g) changes (place_of n.slots left entered n.mode (plain n S L) len)
+    follows : (k : ℕ) → left ≡ suc k → is_again s.change ≡ true
+        → following (route_moves on) (changes + 1) (place_of n.slots (left - 1) (is_out s.change) s.numbers.mode (plain s.numbers S L) len)
+        ≡ following (route_moves g) changes (place_of n.slots left false n.mode (plain n S L) len)
     unfolding following
     follows k z t =
         let d : Decision = place_of n.slots k m.entered m.pool.mode m.pool len in
         let j : left - 1 ≡ k = omega arith in
-        ap (λ (x : ℕ). following (route_moves on) (changes + 1) (place_of n.slots x s.entered s.numbers.mode (plain s.numbers S L) len)) j
+        ap (λ (x : ℕ). following (route_moves on) (changes + 1) (place_of n.slots x (is_out s.change) s.numbers.mode (plain s.numbers S L) len)) j
         ∙ ap (λ (x : Bool). following (route_moves on) (changes + 1) (place_of n.slots k x s.numbers.mode (plain s.numbers S L) len)) (entered_is n S L len s e)
         ∙ ap (λ (r : BufferPool). following (route_moves on) (changes + 1) (place_of n.slots k m.entered r.mode r len)) (pool_is n S L len s e)
         ∙ ap (λ (x : List Move). following x (changes + 1) d) way
@@ -486,22 +473,22 @@ module _ (n : Numbers) (S L : List ℕ) (entered : Bool) (g : Route) (changes le
             ≡ following before changes (record { next = d.next; changes = suc d.changes; moves = moves ++ d.moves; heap = d.heap })
         one_more before moves d = let i : changes + 1 + d.changes ≡ changes + suc d.changes = omega arith in rw (i, append_assoc before moves d.moves)
 
-    pub places_again : Placeable n.slots (bare n) → s.again ≡ true
-        → Decides S L c (following (route_moves on) (changes + 1) (place_of s.numbers.slots (left - 1) s.entered s.numbers.mode (plain s.numbers S L) len)) len
-        → Whole
-    places_again P t D = go left refl
+    again : Placeable n.slots (bare n) → is_again s.change ≡ true
+        → Decides S L c (following (route_moves on) (changes + 1) (place_of s.numbers.slots (left - 1) (is_out s.change) s.numbers.mode (plain s.numbers S L) len)) len
+        → Whole n S L g changes left len c false
+    again P t D = go left refl
       where
-        go : (k : ℕ) → left ≡ k → Whole
+        go : (k : ℕ) → left ≡ k → Whole n S L g changes left len c false
         go zero z = absurd (o z)
         go (suc k) z =
             subst (λ (d : Decision). Decides S L c d len)
-            (ap (λ (w : ℕ). following (route_moves on) (changes + 1) (place_of w (left - 1) s.entered s.numbers.mode (plain s.numbers S L) len)) (slots_is n S L len s e P)
+            (ap (λ (w : ℕ). following (route_moves on) (changes + 1) (place_of w (left - 1) (is_out s.change) s.numbers.mode (plain s.numbers S L) len)) (slots_is n S L len s e P)
             ∙ follows k z t)
             D
 
-    stops : (k : ℕ) → left ≡ suc k → s.again ≡ false
+    stops : (k : ℕ) → left ≡ suc k → is_again s.change ≡ false
         → following (route_moves on) changes (finished (plain s.numbers S L) len)
-        ≡ following (route_moves g) changes (place_of n.slots left entered n.mode (plain n S L) len)
+        ≡ following (route_moves g) changes (place_of n.slots left false n.mode (plain n S L) len)
     unfolding finished
     stops k z t =
         ap (λ (x : List Move). following x changes (finish s.numbers.mode (plain s.numbers S L) [] len)) way
@@ -510,9 +497,27 @@ module _ (n : Numbers) (S L : List ℕ) (entered : Bool) (g : Route) (changes le
         ∙ following_first (route_moves g) m.moves changes (finish m.mode m.pool [] len)
         ∙ ap (following (route_moves g) changes) (sym (finish_moves m.mode m.pool m.moves len) ∙ sym (unfolds false (sym (again_is n S L len s e) ∙ t) k z))
 
-    pub places_here : s.again ≡ false → c ≡ finished_on s.numbers.mode s.numbers on changes len → Whole
-    places_here t f = go left refl
-      where
-        go : (k : ℕ) → left ≡ k → Whole
-        go zero z = absurd (o z)
-        go (suc k) z = subst (λ (d : Decision). Decides S L c d len) (stops k z t) (finish_decides s.numbers S L on changes len c f)
+  pub places_here : s.change ≡ Stays → (on : Route) → on ≡ onward g changes s.via false s.numbers.raw_offset
+      → c ≡ finished_on s.numbers.mode s.numbers on changes len → Whole n S L g changes left len c false
+  places_here t on i f = go left refl
+    where
+      go : (k : ℕ) → left ≡ k → Whole n S L g changes left len c false
+      go zero z = absurd (o z)
+      go (suc k) z =
+          subst (λ (d : Decision). Decides S L c d len) (stops on (i ∙ way_of g changes s Stays t) k z (ap is_again t))
+          (finish_decides s.numbers S L on changes len c f)
+
+  module _ (P : Placeable n.slots (bare n)) where
+    pub places_again : s.change ≡ Changes → (on : Route) → on ≡ onward g changes s.via false s.numbers.raw_offset
+        → Decides S L c (following (route_moves on) (changes + 1) (place_of s.numbers.slots (left - 1) false s.numbers.mode (plain s.numbers S L) len)) len
+        → Whole n S L g changes left len c false
+    places_again t on i D =
+        again on (i ∙ way_of g changes s Changes t) P (ap is_again t)
+        (subst (λ (x : Bool). Decides S L c (following (route_moves on) (changes + 1) (place_of s.numbers.slots (left - 1) x s.numbers.mode (plain s.numbers S L) len)) len) (ap is_out (sym t)) D)
+
+    pub places_out : s.change ≡ GoesOut → (on : Route) → on ≡ onward g changes s.via true s.via
+        → c ≡ finished_on s.numbers.mode s.numbers on (changes + 1) len → Whole n S L g changes left len c false
+    places_out t on i f =
+        again on (i ∙ way_of g changes s GoesOut t) P (ap is_again t)
+        (subst (λ (x : Bool). Decides S L c (following (route_moves on) (changes + 1) (place_of s.numbers.slots (left - 1) x s.numbers.mode (plain s.numbers S L) len)) len) (ap is_out (sym t))
+        (just_entered s.numbers S L on (changes + 1) (left - 1) len c (step_alloc n S L len s e (ap is_out t)) f))

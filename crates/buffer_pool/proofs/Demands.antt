@@ -14,15 +14,14 @@ use lib.Dec.{ltb}
 use lib.ListN.{length}
 use Rattle.buffer_pool.specs.declared.buffer_pool.BufferPool.{BufferPool}
 use Rattle.buffer_pool.specs.declared.buffer_pool.Memory.TheVariants.{Pool}
-use Rattle.buffer_pool.specs.declared.buffer_pool.Answer.TheVariants.{Refused}
 use Rattle.buffer_pool.specs.Record.{cut, byte_limit}
 use Rattle.buffer_pool.specs.Moves.{Memories, Move, perform}
 use Rattle.buffer_pool.specs.Soundness.{is_slot_count, sound}
 use Rattle.buffer_pool.specs.Sound.{Orderly}
 use Rattle.buffer_pool.specs.Placing.{Decision, most_changes, place}
-use Rattle.buffer_pool.specs.Values.{values, refusal}
+use Rattle.buffer_pool.specs.Values.{View, view_refusal, view_place, no_place, no_handle, valued, values, refusal}
 use Rattle.buffer_pool.specs.Steps.{at, frame}
-use Rattle.buffer_pool.specs.declared.buffer_pool.View.{View}
+use Rattle.buffer_pool.specs.declared.refusals.Refusal.TheVariants.{MemoryTooLong, WrongSlotCount}
 use Rattle.buffer_pool.specs.Calls.{Outcome, new_refused, new_done, new, reserve, Lies, written}
 use Rattle.buffer_pool.specs.Rust.{done, RustPool, rust_reserve}
 use Rattle.buffer_pool.specs.RustMoves.{less_self_copies, rust_reserve_moves}
@@ -47,16 +46,18 @@ module _ (r : BufferPool) (m : Memories) (c : Call) where
   -- refusal": the number of a cause that holds, with none before it
   pub a_result_or_a_refusal : Result c (call r.slots r m c).call
       ⊎ ((k : ℕ) × Refusal k (call r.slots r m c).call × First k (causes r.slots r m c))
+  unfolding number_of refusal
   a_result_or_a_refusal = go (number_of r.slots r m c) refl
     where
       go : (n : ℕ) → number_of r.slots r m c ≡ n
           → Result c (call r.slots r m c).call ⊎ ((k : ℕ) × Refusal k (call r.slots r m c).call × First k (causes r.slots r m c))
       go zero e = inl (call_answers r.slots r m c e)
       go (suc k) e =
+          let x = refused_keeps r.slots r m c (omega (arith, e)) in
           inr (
             suc k,
-            ap (λ (o : Outcome). values o.call.answer) (refused_keeps r.slots r m c (omega (arith, e)))
-                ∙ ap (λ (n : ℕ). values (Refused n)) e,
+            ap (λ (o : Outcome). values o.call.answer) x.1
+                ∙ ap (λ (n : ℕ). valued n no_place no_handle 0 0) (ap (λ (o : Outcome). refusal o.call.answer) (sym x.1) ∙ e),
             first_holds k (causes r.slots r m c) (sym (only_for_cause r.slots r m c) ∙ e),
           )
 
@@ -65,7 +66,7 @@ module _ (r : BufferPool) (m : Memories) (c : Call) where
       → ((call r.slots r m c).call.pool ≡ r) × ((call r.slots r m c).memory ≡ m)
       × ((call r.slots r m c).destination ≡ destination_of c)
   a_refusal_changes_nothing h =
-      let e = refused_keeps r.slots r m c h in
+      let e = (refused_keeps r.slots r m c h).1 in
       (ap (λ (o : Outcome). o.call.pool) e, ap (λ (o : Outcome). o.memory) e, ap (λ (o : Outcome). o.destination) e)
 
   -- ---- Demand 2: the refusals
@@ -80,13 +81,13 @@ module _ (r : BufferPool) (m : Memories) (c : Call) where
   )
 
 -- SPECIFICATION 3.6: "A refused view is an empty place: the pool memory, start 0, length 0"
-pub a_refused_view_is_empty : (r : BufferPool) (m : Memories) (part : Part) → 0 < (view_of r.slots r m part).number
-    → (view_of r.slots r m part).place ≡ at Pool 0 0
-a_refused_view_is_empty r m part h = ap (λ (v : View). v.place) (refused_view r.slots r m part h)
+pub a_refused_view_is_empty : (r : BufferPool) (m : Memories) (part : Part) → 0 < view_refusal (view_of r.slots r m part)
+    → (view_place (view_of r.slots r m part)) ≡ at Pool 0 0
+a_refused_view_is_empty r m part h = ap view_place (refused_view r.slots r m part h).1
 
 -- SPECIFICATION 3.1: "A view gives a part of the lent memory": every view's place lies in its memory, whatever record and memories
 -- it is asked of; a refused one is empty
-pub a_view_lies_in_its_memory : (r : BufferPool) (m : Memories) (part : Part) → Lies m (view_of r.slots r m part).place
+pub a_view_lies_in_its_memory : (r : BufferPool) (m : Memories) (part : Part) → Lies m (view_place (view_of r.slots r m part))
 a_view_lies_in_its_memory = λ r. part_lies r.slots r
 
 -- a write of one byte through a view (SPECIFICATION 7.10): it is "refused as its view is", for the view's causes and only then
@@ -94,19 +95,19 @@ pub a_write_is_refused_as_its_view : (r : BufferPool) (m : Memories) (part : Par
     → refusal (write r.slots r m part i byte).call.answer ≡ number_of r.slots r m (Look part)
 unfolding number_of call
 a_write_is_refused_as_its_view r m part i byte =
-    let v = view_of r.slots r m part in write_number v.number ∙ sym (view_number v.number v.place)
+    let v = view_of r.slots r m part in write_number v ∙ sym (view_number v)
 
 -- "a refused write sets no byte", and no write changes the record
 pub a_refused_write_changes_nothing : (r : BufferPool) (m : Memories) (part : Part) (i byte : ℕ)
     → 0 < refusal (write r.slots r m part i byte).call.answer
     → ((write r.slots r m part i byte).call.pool ≡ r) × ((write r.slots r m part i byte).memory ≡ m)
 a_refused_write_changes_nothing r m part i byte h =
-    (refl, refused_written r.slots r m part i byte (omega (arith, write_number (view_of r.slots r m part).number)))
+    (refl, refused_written r.slots r m part i byte (omega (arith, write_number (view_of r.slots r m part))))
 
 -- "At or past the view's end it sets none."
 pub a_write_past_the_end_changes_nothing : (r : BufferPool) (m : Memories) (part : Part) (i byte : ℕ)
-    → (view_of r.slots r m part).place.length ≤ i → (write r.slots r m part i byte).memory ≡ m
-a_write_past_the_end_changes_nothing r m part = past_written r.slots r m (view_of r.slots r m part).place
+    → (view_place (view_of r.slots r m part)).length ≤ i → (write r.slots r m part i byte).memory ≡ m
+a_write_past_the_end_changes_nothing r m part = past_written r.slots r m (view_place (view_of r.slots r m part))
 
 -- 4: "the Rust would use the heap, and frame length + `len` exceeds the length of the overflow", for every pool of the Rust that
 -- stands for the record and the memories
@@ -126,8 +127,8 @@ new_refused_only_for_cause = new_only_for_cause
 -- zeros in the pool memory and the overflow as it was; or refused with 16 or 3, and no byte changed
 pub new_is_done_or_refused : (w : ℕ) (m : Memories)
     → ((wrong_count w ≡ false) × (too_large m ≡ false) × (new w m ≡ new_done w m))
-    ⊎ (((wrong_count w ≡ true) × (new w m ≡ new_refused 16 m))
-    ⊎ ((wrong_count w ≡ false) × (too_large m ≡ true) × (new w m ≡ new_refused 3 m)))
+    ⊎ (((wrong_count w ≡ true) × (new w m ≡ new_refused WrongSlotCount m))
+    ⊎ ((wrong_count w ≡ false) × (too_large m ≡ true) × (new w m ≡ new_refused MemoryTooLong m)))
 new_is_done_or_refused = new_cases
 
 -- ---- Demand 2: the sequence
@@ -219,4 +220,4 @@ pub entries_above_never_matter_in_a_write : (r q : BufferPool) (m : Memories) (p
     (o.call.answer ≡ o'.call.answer) × (o.memory ≡ o'.memory)
 entries_above_never_matter_in_a_write r q m part i byte e =
     let f = sym (view_cut r.slots r m part) ∙ ap (λ (x : BufferPool). view_of r.slots x m part) e ∙ view_cut r.slots q m part in
-    (ap (λ (v : View). done_unless v.number) f, ap (λ (v : View). written m v.place i byte) f)
+    (ap (λ (v : View). done_unless v) f, ap (λ (v : View). written m (view_place v) i byte) f)

@@ -1,5 +1,6 @@
 -- One call of `reserve_` in the front, from what the code of pool_front.rt knows where it returns. Assumes nothing.
 use mathlib.Core.Path.{◌≡◌, refl, sym, ap, ◌∙◌}
+use Rattle.std.specs.Prelude.{Some, None}
 use mathlib.Core.Bool.{Bool, true, false, not, ◌&&◌}
 use mathlib.Core.List.{List, [], ◌++◌, append-nil}
 use Prim.Native.Nat.{ℕ, ◌+◌, ◌≤◌, ◌<◌}
@@ -11,40 +12,13 @@ use Rattle.buffer_pool.specs.declared.buffer_pool.BufferPool.{BufferPool}
 use Rattle.buffer_pool.specs.declared.buffer_pool.PoolFront.{PoolFront}
 use Rattle.buffer_pool.specs.declared.buffer_pool.PoolMode.TheVariants.{Front}
 use Rattle.buffer_pool.specs.declared.numbers.Numbers.{Numbers}
-use Rattle.buffer_pool.specs.declared.placing.Cleared.{Cleared}
+use Rattle.buffer_pool.specs.declared.placing.ModeChange.TheVariants.{Stays, Changes}
 use Rattle.buffer_pool.specs.declared.placing.ModeStep.{ModeStep}
-use Rattle.buffer_pool.specs.Record.{after, front, placed}
 use Rattle.buffer_pool.specs.Numbers.{numbers_of, plain, bare}
 use Rattle.buffer_pool.specs.Moves.{Move, within}
 use Rattle.buffer_pool.specs.Placing.{Layer, stay, clearable, tail_fits, tail_cleared, front_fits, front_last, front_start, front_cleared, leave_on, leave, front_on, front_layer}
-use Rattle.buffer_pool.specs.Deciding.{Worded, cleared_on, step, gone_out, step_moves, layer_of}
-use Rattle.buffer_pool.proofs.LayerLaws.{within_same, clearable_plain, layer_out, layer_to, layer_still, cleared_true, cleared_false}
-
-module _ (n : Numbers) (f : PoolFront) (len : ℕ) where
-  pub no_slot : f.back_start ≤ f.len → false ≡ (ltb f.len f.back_start && front_fits (bare n) f.byte_capacity len)
-  no_slot h = rw (le-ltb f.len f.back_start h)
-
-  pub slot_left : f.len < f.back_start → (b : Bool) → b ≡ leb (n.raw_offset + n.raw_len + len) f.byte_capacity
-      → b ≡ (ltb f.len f.back_start && front_fits (bare n) f.byte_capacity len)
-  unfolding front_fits
-  slot_left h b e = e ∙ rw (lt-ltb f.len f.back_start h)
-
-pub front_cleared_is : (n : Numbers) (S L : List ℕ) (f : PoolFront) (last start : ℕ) (q : Numbers) → last ≡ last_live n.slots n.live f.len
-    → start ≡ after S L last
-    → q ≡ numbers_of (placed (bare n) (front f.back_start f.byte_capacity last) n.back_start n.back_len last start)
-    → q ≡ numbers_of (front_cleared n.slots (plain n S L) f)
-front_cleared_is n S L f last start q e s g = g ∙ rw (s, e)
-
--- the back and the cursor are as before
-module _ (n : Numbers) (S L : List ℕ) (f : PoolFront) (q : Numbers) (e : q ≡ numbers_of (front_cleared n.slots (plain n S L) f)) where
-  pub front_cleared_back : n.back_start + n.back_len ≤ n.slots → q.back_start + q.back_len ≤ q.slots
-  front_cleared_back h = rw e h
-
-  pub front_cleared_worded : Worded (bare n) → Worded (bare q)
-  front_cleared_worded h = rw e (record { most = h.most; word = h.word })
-
-  pub front_cleared_cursor : n.cursor ≡ 0 → q.cursor ≡ 0
-  front_cleared_cursor h = rw e h
+use Rattle.buffer_pool.specs.Deciding.{cleared_on, step, gone_out, step_moves, layer_of}
+use Rattle.buffer_pool.proofs.LayerLaws.{within_same, clearable_plain, layer_out, layer_to, layer_still, cleared_some, cleared_none}
 
 -- ---- The front gives way
 
@@ -54,25 +28,25 @@ module _ (n : Numbers) (S L : List ℕ) (len : ℕ) (m : ModeStep) where
     unfolding leave_on
     leave_not_clearable h f = layer_out S L n m f ∙ rw (← (g ∙ clearable_plain n S L), not_true c h)
 
-    module _ (h : not c ≡ false) (t : Cleared)
-        (i : t ≡ cleared_on (tail_fits n.slots (plain n S L) len) (numbers_of (tail_cleared n.slots (plain n S L))) n) where
-      pub leave_clears_tail : t.cleared ≡ true → m ≡ step true false n.raw_offset t.numbers
-          → layer_of S L n m ≡ leave n.slots (plain n S L) [] len
+    module _ (h : not c ≡ false) where
+      pub leave_clears_tail : (t : Numbers) → Some t ≡ cleared_on (tail_fits n.slots (plain n S L) len) (numbers_of (tail_cleared n.slots (plain n S L)))
+          → m ≡ step Changes n.raw_offset t → layer_of S L n m ≡ leave n.slots (plain n S L) [] len
       unfolding leave_on
-      leave_clears_tail k f =
-          let x = cleared_true (tail_fits n.slots (plain n S L) len) (numbers_of (tail_cleared n.slots (plain n S L))) n t i k in
-          layer_to S L n m true t.numbers f ∙ rw (x.1, ← (g ∙ clearable_plain n S L), not_false c h, x.0)
+      leave_clears_tail t i f =
+          let x = cleared_some (tail_fits n.slots (plain n S L) len) (numbers_of (tail_cleared n.slots (plain n S L))) t i in
+          layer_to S L n m Changes refl t f ∙ rw (x.1, ← (g ∙ clearable_plain n S L), not_false c h, x.0)
 
-      pub leave_goes_out : t.cleared ≡ false → m ≡ gone_out n → layer_of S L n m ≡ leave n.slots (plain n S L) [] len
+      pub leave_goes_out : None ≡ cleared_on (tail_fits n.slots (plain n S L) len) (numbers_of (tail_cleared n.slots (plain n S L)))
+          → m ≡ gone_out n → layer_of S L n m ≡ leave n.slots (plain n S L) [] len
       unfolding leave_on
-      leave_goes_out k f =
+      leave_goes_out i f =
           layer_out S L n m f
-          ∙ rw (← (g ∙ clearable_plain n S L), not_false c h, cleared_false (tail_fits n.slots (plain n S L) len) (numbers_of (tail_cleared n.slots (plain n S L))) n t i k)
+          ∙ rw (← (g ∙ clearable_plain n S L), not_false c h, cleared_none (tail_fits n.slots (plain n S L) len) (numbers_of (tail_cleared n.slots (plain n S L))) i)
 
   pub left_by_out : m ≡ gone_out n → m.via ≡ n.raw_offset
   left_by_out f = rw f refl
 
-  pub left_by : (q : Numbers) → m ≡ step true false n.raw_offset q → m.via ≡ n.raw_offset
+  pub left_by : (q : Numbers) → m ≡ step Changes n.raw_offset q → m.via ≡ n.raw_offset
   left_by q f = rw f refl
 
 -- moves made before are the first of those that it leaves with
@@ -99,11 +73,11 @@ module _ (n : Numbers) (S L : List ℕ) (f : PoolFront) (len : ℕ) (m : ModeSte
   unfolding front_fits
   fits_is = e
 
-  pub front_keeps : n.mode ≡ Front f → b ≡ true → m ≡ step false false n.raw_offset n
+  pub front_keeps : n.mode ≡ Front f → b ≡ true → m ≡ step Stays n.raw_offset n
       → layer_of S L n m ≡ front_layer n.slots f (plain n S L) len
   unfolding front_layer front_on
   front_keeps h t s =
-      layer_still S L n m false n s (within_same n.raw_offset n.raw_len n.raw_offset refl) ∙ rw (← fits_is, t, h)
+      layer_still S L n m Stays refl n s (within_same n.raw_offset n.raw_len n.raw_offset refl) ∙ rw (← fits_is, t, h)
 
   module _ (o : b ≡ false) (last : ℕ) (l : last ≡ last_live n.slots n.live f.len) where
     pub front_leaves : f.len ≤ last → layer_of S L n m ≡ leave n.slots (plain n S L) [] len
@@ -121,12 +95,12 @@ module _ (n : Numbers) (S L : List ℕ) (f : PoolFront) (len : ℕ) (m : ModeSte
       unfolding front_fits
       tests t = sym (i ∙ ap (λ (r : Numbers). leb (r.raw_offset + n.raw_len + len) f.byte_capacity) c) ∙ t
 
-      pub front_drops : g ≡ true → m ≡ step false false q.raw_offset q → layer_of S L n m ≡ front_layer n.slots f (plain n S L) len
+      pub front_drops : g ≡ true → m ≡ step Stays q.raw_offset q → layer_of S L n m ≡ front_layer n.slots f (plain n S L) len
       unfolding front_layer front_on
       front_drops t s =
           step_before S L n q m (rw s refl) (rw c refl)
           ∙ ap (before (within n.raw_offset n.raw_len q.raw_offset))
-          (layer_still S L q m false q s (within_same q.raw_offset q.raw_len q.raw_offset refl))
+          (layer_still S L q m Stays refl q s (within_same q.raw_offset q.raw_len q.raw_offset refl))
           ∙ rw (c, ← fits_is, o, one_dropped, tests t) (sym (nothing_more (within n.raw_offset n.raw_len (front_start n.slots (plain n S L) f))))
         where
           nothing_more : (moves : List Move)

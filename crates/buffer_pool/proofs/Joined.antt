@@ -13,6 +13,7 @@ use lib.ListN.{length}
 use Rattle.laws.specs.Tests.{pick}
 use Rattle.laws.specs.Lists.{part}
 use Rattle.laws.proofs.Lists.{part_take}
+use Rattle.buffer_pool.specs.declared.refusals.Refusal.{Refusal}
 use Rattle.buffer_pool.specs.declared.slice.Handle.{Handle}
 use Rattle.buffer_pool.specs.declared.buffer_pool.BufferPool.{BufferPool}
 use Rattle.buffer_pool.specs.declared.buffer_pool.PoolMode.{PoolMode}
@@ -25,7 +26,8 @@ use Rattle.buffer_pool.specs.Moves.{Memories}
 use Rattle.buffer_pool.specs.Sound.{InMode, Orderly}
 use Rattle.buffer_pool.specs.Soundness.{sound}
 use Rattle.buffer_pool.specs.Steps.{at, frame_of, frame, reservation, names}
-use Rattle.buffer_pool.specs.declared.buffer_pool.View.{View}
+use Rattle.buffer_pool.specs.Values.{View, view_refusal, view_place}
+use Rattle.buffer_pool.specs.declared.refusals.Refusal.TheVariants.{NotLive}
 use Rattle.buffer_pool.specs.Calls.{misfit, guarded, shown, hidden, frame_view, reservation_view, slice_view, memory_at, bytes_at}
 use Rattle.buffer_pool.specs.Rust.{done, RustPool}
 use Rattle.buffer_pool.specs.AsRust.{rust_of, heap_of, Stands}
@@ -119,7 +121,7 @@ module _ (w : ℕ) (s : Ours) (t : Theirs) (J : Joined w s t) where
       refl
 
   -- no call is refused with 1 or 2
-  unguarded : {A : Type 0} (refuse : ℕ → A) (a : A) → guarded w r m refuse a ≡ a
+  unguarded : {A : Type 0} (refuse : Refusal → A) (a : A) → guarded w r m refuse a ≡ a
   unguarded refuse a = rw (J.sound_is, joined_fits) refl
 
   seen_agrees : (place : Place) → InKept place.memory (place.start + place.length) r.kept
@@ -161,7 +163,7 @@ module _ (w : ℕ) (s : Ours) (t : Theirs) (J : Joined w s t) where
         kept = reservation_kept w r joined_orderly;
       }
 
-  slice_view_lem : (h : Handle) → view w s (TheSlice h) ≡ pick (names w r h) (shown (at Pool h.start h.length)) (hidden 7)
+  slice_view_lem : (h : Handle) → view w s (TheSlice h) ≡ pick (names w r h) (shown (at Pool h.start h.length)) (hidden NotLive)
   unfolding view_of slice_view
   slice_view_lem h = unguarded hidden _
 
@@ -199,7 +201,7 @@ module _ (w : ℕ) (s : Ours) (t : Theirs) (J : Joined w s t) where
 
   -- through a view
   viewed : (part : Part) (place : Place) → view w s part ≡ shown place → seen place (bytes_at m place) ≡ seen_in w s part
-  viewed part place e = ap (λ (v : View). seen v.place (bytes_at m v.place)) (sym e)
+  viewed part place e = ap (λ (v : View). seen (view_place v) (bytes_at m (view_place v))) (sym e)
 
   pub part_seen : (part : Part) (place : Place) → view w s part ≡ shown place
       → InKept place.memory (place.start + place.length) r.kept → rust_seen p place ≡ seen_in w s part
@@ -231,11 +233,11 @@ module _ (w : ℕ) (s : Ours) (t : Theirs) (J : Joined w s t) where
 
   -- ---- A part whose view is not refused
 
-  pub part_agrees : (part : Part) → (view w s part).number ≡ 0 → Agrees part
+  pub part_agrees : (part : Part) → view_refusal (view w s part) ≡ 0 → Agrees part
   part_agrees TheFrame u = frame_part
   part_agrees TheReservation u = reservation_part
-  part_agrees (TheSlice h) u = go (names w r h) refl (ap (λ (v : View). v.number) (sym (slice_view_lem h)) ∙ u)
+  part_agrees (TheSlice h) u = go (names w r h) refl (ap view_refusal (sym (slice_view_lem h)) ∙ u)
     where
-      go : (b : Bool) → names w r h ≡ b → (pick b (shown (at Pool h.start h.length)) (hidden 7)).number ≡ 0 → Agrees (TheSlice h)
+      go : (b : Bool) → names w r h ≡ b → (view_refusal (pick b (shown (at Pool h.start h.length)) (hidden NotLive))) ≡ 0 → Agrees (TheSlice h)
       go true e z = slice_part h (names_use w r h e)
       go false e z = absurd (omega (arith, z))

@@ -2,6 +2,7 @@ pub mod Cases
 pub mod SliceLaws
 pub mod Cut
 pub mod RestLaws
+pub mod EveryRest
 pub mod ByteLaws
 pub mod BoundLaws
 pub mod RouteLaws

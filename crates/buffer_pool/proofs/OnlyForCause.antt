@@ -11,9 +11,11 @@ use borrow.Author.Tests.{eqb-false, eqb-true, le-ltb, lt-ltb, ltb-false, ltb-tru
 use lib.Dec.{leb, ltb, eqb}
 use lib.ListN.{length}
 use lib.Seq.{length-take-le}
+use Rattle.std.specs.Prelude.{Ok}
 use Rattle.laws.specs.Tests.{pick}
 use Rattle.laws.specs.Live.{live_at}
 use Rattle.laws.proofs.Tests.{no_true}
+use Rattle.buffer_pool.specs.declared.refusals.Refusal.{Refusal}
 use Rattle.buffer_pool.specs.declared.slice.Handle.{Handle}
 use Rattle.buffer_pool.specs.declared.buffer_pool.BufferPool.{BufferPool}
 use Rattle.buffer_pool.specs.declared.buffer_pool.PoolMode.{PoolMode}
@@ -26,9 +28,9 @@ use Rattle.buffer_pool.specs.Moves.{Memories}
 use Rattle.buffer_pool.specs.Placing.{Decision, place, is_too_long, is_alloc}
 use Rattle.buffer_pool.specs.Soundness.{is_slot_count, sound}
 use Rattle.buffer_pool.specs.Sound.{Orderly}
-use Rattle.buffer_pool.specs.Values.{refusal}
+use Rattle.buffer_pool.specs.Values.{refusal_number, refusal, view_refusal}
 use Rattle.buffer_pool.specs.Steps.{called, refused, at, frame, frame_of, reservation, reserve_on, reserve_step, resized, reframed, commit_step, truncate_step, most_serials, given_to, take_on, take_step, names, freed, release_step}
-use Rattle.buffer_pool.specs.declared.buffer_pool.View.{View}
+use Rattle.buffer_pool.specs.declared.refusals.Refusal.TheVariants.{Unsound, WrongLength, CommitTooLong, NotLive}
 use Rattle.buffer_pool.specs.Calls.{Outcome, outcome, misfit, guarded, guarded_call, new_on, new, reserve, commit, truncate, copied_out, take, release, hidden, shown, frame_view, reservation_view, slice_view}
 use Rattle.buffer_pool.specs.Rust.{RustPool, rust_reserve}
 use Rattle.buffer_pool.specs.AsRust.{Exact, rust_of, heap_of, Mirrors, Stands}
@@ -109,7 +111,7 @@ unfolding commit_step refusal past_reservation first_cause
 commit_first r n = go (ltb r.reserved n)
   where
     go : (t : Bool)
-        → refusal (pick t (refused r 5) (reframed (resized r.mode r ((frame r).length + n)))).answer ≡ pick t 5 0
+        → refusal (pick t (refused r CommitTooLong) (reframed (resized r.mode r ((frame r).length + n)))).answer ≡ pick t 5 0
     go true = refl
     go false = refl
 
@@ -190,33 +192,33 @@ release_first : (w : ℕ) (r : BufferPool) (h : Handle) → refusal (release_ste
 unfolding release_step refusal first_cause
 release_first w r h = rw (unknown_is w r h) (go (names w r h))
   where
-    go : (t : Bool) → refusal (pick t (called (freed w r h.slot) Done) (refused r 7)).answer ≡ pick (not t) 7 0
+    go : (t : Bool) → refusal (pick t (called (freed w r h.slot) (Ok Done)) (refused r NotLive)).answer ≡ pick (not t) 7 0
     go true = refl
     go false = refl
 
 -- the views' own cause
 view_first : (w : ℕ) (r : BufferPool) (h : Handle)
-    → (pick (names w r h) (shown (at Pool h.start h.length)) (hidden 7)).number ≡ first_cause (cause 7 (unknown w r h) ∷ [])
+    → (view_refusal (pick (names w r h) (shown (at Pool h.start h.length)) (hidden NotLive))) ≡ first_cause (cause 7 (unknown w r h) ∷ [])
 unfolding first_cause
 view_first w r h = rw (unknown_is w r h) (go (names w r h))
   where
-    go : (t : Bool) → (pick t (shown (at Pool h.start h.length)) (hidden 7)).number ≡ pick (not t) 7 0
+    go : (t : Bool) → (view_refusal (pick t (shown (at Pool h.start h.length)) (hidden NotLive))) ≡ pick (not t) 7 0
     go true = refl
     go false = refl
 
 -- ---- The calls: 1 and 2 before the step's own
 
 module _ (w : ℕ) (r : BufferPool) (m : Memories) where
-  guarded_first : {A : Type 0} (number : A → ℕ) (refuse : ℕ → A) → ((n : ℕ) → number (refuse n) ≡ n) → (a : A) (own : List Cause)
+  guarded_first : {A : Type 0} (number : A → ℕ) (refuse : Refusal → A) → ((why : Refusal) → number (refuse why) ≡ refusal_number why) → (a : A) (own : List Cause)
       → (Orderly w r → misfit r m ≡ false → number a ≡ first_cause own)
       → number (guarded w r m refuse a) ≡ first_cause (cause 1 (unsound w r) ∷ cause 2 (misfit r m) ∷ own)
   unfolding first_cause unsound
   guarded_first number refuse numbered a own f = go (sound w r) refl (misfit r m) refl
     where
       go : (s : Bool) → sound w r ≡ s → (x : Bool) → misfit r m ≡ x
-          → number (pick (not s) (refuse 1) (pick x (refuse 2) a)) ≡ pick (not s) 1 (pick x 2 (first_cause own))
-      go false p x q = numbered 1
-      go true p true q = numbered 2
+          → number (pick (not s) (refuse Unsound) (pick x (refuse WrongLength) a)) ≡ pick (not s) 1 (pick x 2 (first_cause own))
+      go false p x q = numbered Unsound
+      go true p true q = numbered WrongLength
       go true p false q = f (sound_use w r p).orderly q
 
   -- a call, with this destination
@@ -226,11 +228,11 @@ module _ (w : ℕ) (r : BufferPool) (m : Memories) where
   unfolding refusal
   call_first destination = guarded_first (λ (o : Outcome). refusal o.call.answer) (λ n. outcome (refused r n) m destination) (λ n. refl)
 
-  part_first : (part : Part) → (view_of w r m part).number ≡ first_cause (cause 1 (unsound w r) ∷ cause 2 (misfit r m) ∷ view_causes w r part)
+  part_first : (part : Part) → view_refusal (view_of w r m part) ≡ first_cause (cause 1 (unsound w r) ∷ cause 2 (misfit r m) ∷ view_causes w r part)
   unfolding view_of view_causes frame_view reservation_view slice_view
-  part_first TheFrame = guarded_first (λ (v : View). v.number) hidden (λ n. refl) (shown (frame r)) [] (λ O e. none)
-  part_first TheReservation = guarded_first (λ (v : View). v.number) hidden (λ n. refl) (shown (reservation r)) [] (λ O e. none)
-  part_first (TheSlice h) = guarded_first (λ (v : View). v.number) hidden (λ n. refl) _ _ (λ O e. view_first w r h)
+  part_first TheFrame = guarded_first view_refusal hidden (λ n. refl) (shown (frame r)) [] (λ O e. none)
+  part_first TheReservation = guarded_first view_refusal hidden (λ n. refl) (shown (reservation r)) [] (λ O e. none)
+  part_first (TheSlice h) = guarded_first view_refusal hidden (λ n. refl) _ _ (λ O e. view_first w r h)
 
   pub only_for_cause : (c : Call) → number_of w r m c ≡ first_cause (causes w r m c)
   unfolding number_of call causes own_causes reserve commit truncate take copied_out release
@@ -239,7 +241,7 @@ module _ (w : ℕ) (r : BufferPool) (m : Memories) where
   only_for_cause (Truncate n) = call_first [] _ _ (λ O e. truncate_first r n)
   only_for_cause (Take caller destination) = call_first destination _ _ (λ O e. take_first w r caller destination)
   only_for_cause (Release h) = call_first [] _ _ (λ O e. release_first w r h)
-  only_for_cause (Look part) = view_number (view_of w r m part).number (view_of w r m part).place ∙ part_first part
+  only_for_cause (Look part) = view_number (view_of w r m part) ∙ part_first part
 
 -- ---- Another slot count: a sound record has 8 or 16
 

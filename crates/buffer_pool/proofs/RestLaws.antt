@@ -11,11 +11,11 @@ use Rattle.buffer_pool.specs.declared.buffer_pool.PoolMode.{PoolMode}
 use Rattle.buffer_pool.specs.declared.buffer_pool.PoolMode.TheVariants.{Back, Front, Alloc}
 use Rattle.buffer_pool.specs.declared.numbers.Numbers.{Numbers}
 use Rattle.buffer_pool.specs.Record.{after, marked}
-use Rattle.buffer_pool.specs.Numbers.{Rest, Whole, filled, plain}
+use Rattle.buffer_pool.specs.Numbers.{Rest, RestWhole, filled, plain}
 use Rattle.buffer_pool.specs.Moves.{Memories, Move}
 use Rattle.buffer_pool.specs.Soundness.{shaped, limited, counted, rising, framed_within, back_numbers, back_sound, front_numbers, besides, front_sound, alloc_sound, mode_sound, orderly, sound}
 use Rattle.buffer_pool.specs.Placing.{Decision, Layer, clearable, tail_start, tail_fits, head_fits, back_fits, front_fits, back_on, leave_on, front_on, front_cleared, stays, alloc_on, back_layer, front_layer, alloc_layer, layer, finish, changed, resolve_on, most_changes, is_too_long, place_of, resets, reset_on, reset_moves, reset, place}
-use Rattle.buffer_pool.specs.Calls.{misfit, cause}
+use Rattle.buffer_pool.specs.Calls.{misfit, cause, guard}
 
 -- r with other arrays of that kind
 abbrev pub rested : Rest → BufferPool → BufferPool
@@ -45,7 +45,7 @@ module _ (w : ℕ) (n : Numbers) (S L : List ℕ) (o : Rest) where
   mode_rest (Front f) = refl
   mode_rest Alloc = refl
 
-  module _ (W : Whole o) where
+  module _ (W : RestWhole o) where
     shaped_rest : shaped w q ≡ shaped w r
     unfolding shaped
     shaped_rest = rw (W.serials_all, W.callers_all, W.given_all) refl
@@ -57,6 +57,10 @@ module _ (w : ℕ) (n : Numbers) (S L : List ℕ) (o : Rest) where
     pub cause_rest : (m : Memories) → cause w q m ≡ cause w r m
     unfolding cause misfit
     cause_rest m = rw sound_rest refl
+
+    pub guard_rest : (m : Memories) → guard w q m ≡ guard w r m
+    unfolding guard misfit
+    guard_rest m = rw sound_rest refl
 
 -- ---- Layers
 

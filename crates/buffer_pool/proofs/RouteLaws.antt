@@ -15,7 +15,7 @@ use Rattle.buffer_pool.specs.declared.numbers.Numbers.{Numbers}
 use Rattle.buffer_pool.specs.declared.route.Route.{Route}
 use Rattle.buffer_pool.specs.declared.placing.ModeStep.{ModeStep}
 use Rattle.buffer_pool.specs.Moves.{Memories, memories, Move, Within, Out, act, perform, within, inside, all_inside}
-use Rattle.buffer_pool.specs.Deciding.{step_moves, route_moves, route, stayed_at, onward, Reaches}
+use Rattle.buffer_pool.specs.Deciding.{is_out, step_moves, route_moves, route, stayed_at, onward, Reaches}
 use Rattle.buffer_pool.proofs.MovesMade.{perform_append, perform_within}
 use Rattle.buffer_pool.proofs.LayerLaws.{within_same}
 
@@ -25,22 +25,30 @@ pub stayed_moves : (start size : ℕ) → route_moves (stayed_at start size) ≡
 unfolding route_moves
 stayed_moves start size = rw (within_same start size start refl) refl
 
-pub stayed_reaches : (n : Numbers) (g : Route) → g ≡ stayed_at n.raw_offset n.raw_len → Reaches g 0 n
-stayed_reaches n g e =
-    rw e
-    (record { in_pool = refl; size_is = refl; fourth_is = refl; third_is = refl; second_is = refl; first_is = λ _. refl; start_is = λ _. refl })
-
 -- ---- The way after a call of `reserve_`
 
-module _ (g : Route) (changes via : ℕ) (out : Bool) (to : ℕ) where
-  module _ (last : ℕ) (l : last ≡ to) where
-    pub onward_first : changes ≡ 0 → route g.size g.start via last last last out ≡ onward g changes via out to
-    unfolding onward
-    onward_first z = rw (eq-eqb changes 0 z, l) refl
+module _ (g : Route) (changes via to : ℕ) where
+  pub onward_first : changes ≡ 0 → route g.size g.start via to to to false ≡ onward g changes via false to
+  unfolding onward
+  onward_first z = rw (eq-eqb changes 0 z) refl
 
-    pub onward_second : (changes ≡ 0 → ⊥) → route g.size g.start g.first g.second via last out ≡ onward g changes via out to
-    unfolding onward
-    onward_second z = rw (ne_eqb changes 0 z, l) refl
+  pub onward_second : (changes ≡ 0 → ⊥) → route g.size g.start g.first g.second via to false ≡ onward g changes via false to
+  unfolding onward
+  onward_second z = rw (ne_eqb changes 0 z) refl
+
+-- the same way, but out at its end
+abbrev out_of : Route → Route
+out_of x = route x.size x.start x.first x.second x.third x.fourth true
+
+pub onward_out : (g : Route) (changes via : ℕ) (on : Route) → on ≡ onward g changes via false via
+    → route on.size on.start on.first on.second on.third on.fourth true ≡ onward g changes via true via
+unfolding onward
+onward_out g changes via on e = rw e (go (eqb changes 0))
+  where
+    go : (b : Bool) → out_of (pick b (route g.size g.start via via via via false) (route g.size g.start g.first g.second via via false))
+        ≡ pick b (route g.size g.start via via via via true) (route g.size g.start g.first g.second via via true)
+    go true = refl
+    go false = refl
 
 -- by its last place, that from which the frame goes out or that to which it goes
 ends : (via size to : ℕ) (out : Bool)
@@ -51,9 +59,9 @@ ends via size to false = append-nil (within via size to)
 
 module _ (g : Route) (changes : ℕ) (n : Numbers) (R : Reaches g changes n) (s : ModeStep) where
   abbrev to : ℕ
-  to = pick s.entered s.via s.numbers.raw_offset
+  to = pick (is_out s.change) s.via s.numbers.raw_offset
 
-  first_moves : changes ≡ 0 → route_moves (route g.size g.start s.via to to to s.entered) ≡ route_moves g ++ step_moves n s
+  first_moves : changes ≡ 0 → route_moves (route g.size g.start s.via to to to (is_out s.change)) ≡ route_moves g ++ step_moves n s
   unfolding route_moves step_moves
   first_moves z =
       rw (
@@ -68,9 +76,9 @@ module _ (g : Route) (changes : ℕ) (n : Numbers) (R : Reaches g changes n) (s 
         within_same n.raw_offset n.raw_len n.raw_offset refl,
       )
       (ap (λ (x : List Move). within n.raw_offset n.raw_len s.via ++ x)
-      (ends s.via n.raw_len s.numbers.raw_offset s.entered))
+      (ends s.via n.raw_len s.numbers.raw_offset (is_out s.change)))
 
-  second_moves : route_moves (route g.size g.start g.first g.second s.via to s.entered) ≡ route_moves g ++ step_moves n s
+  second_moves : route_moves (route g.size g.start g.first g.second s.via to (is_out s.change)) ≡ route_moves g ++ step_moves n s
   unfolding route_moves step_moves
   second_moves =
       rw (
@@ -84,21 +92,21 @@ module _ (g : Route) (changes : ℕ) (n : Numbers) (R : Reaches g changes n) (s 
         append_assoc,
       )
       (ap (λ (x : List Move). within g.start n.raw_len g.first ++ (within g.first n.raw_len n.raw_offset ++ (within n.raw_offset n.raw_len s.via ++ x)))
-      (ends s.via n.raw_len s.numbers.raw_offset s.entered))
+      (ends s.via n.raw_len s.numbers.raw_offset (is_out s.change)))
 
   -- it has the step's moves after those before
-  pub onward_moves : (on : Route) → on ≡ onward g changes s.via s.entered to → route_moves on ≡ route_moves g ++ step_moves n s
+  pub onward_moves : (on : Route) → on ≡ onward g changes s.via (is_out s.change) to → route_moves on ≡ route_moves g ++ step_moves n s
   unfolding onward
   onward_moves on e = ap route_moves e ∙ go (eqb changes 0) refl
     where
       go : (b : Bool) → eqb changes 0 ≡ b
-          → route_moves (pick b (route g.size g.start s.via to to to s.entered) (route g.size g.start g.first g.second s.via to s.entered))
+          → route_moves (pick b (route g.size g.start s.via to to to (is_out s.change)) (route g.size g.start g.first g.second s.via to (is_out s.change)))
           ≡ route_moves g ++ step_moves n s
       go true z = first_moves (eqb-true changes 0 z)
       go false z = second_moves
 
   -- and reaches the step's place, if the frame did not go out
-  pub onward_reaches : changes ≡ 0 → s.entered ≡ false → s.numbers.raw_len ≡ n.raw_len → (on : Route) → on ≡ onward g changes s.via s.entered to
+  pub onward_reaches : changes ≡ 0 → is_out s.change ≡ false → s.numbers.raw_len ≡ n.raw_len → (on : Route) → on ≡ onward g changes s.via (is_out s.change) to
       → Reaches on (changes + 1) s.numbers
   unfolding onward
   onward_reaches z h l on e =
@@ -140,12 +148,6 @@ pub copies_out : (pool overflow after : List ℕ) (start len : ℕ) → after �
     → memories pool after ≡ act (memories pool overflow) (Out start len)
 unfolding act
 copies_out pool overflow after start len e = rw e refl
-
-pub still_inside : (c c' s l t : ℕ) → c' ≡ c → all_inside c 0 (within s l t) ≡ true → all_inside c' 0 (within s l t) ≡ true
-still_inside c c' s l t e h = rw e h
-
-pub moves_twice : (pool one two : List ℕ) (s l v t : ℕ) → one ≡ moved pool s l v → two ≡ moved one v l t → two ≡ moved (moved pool s l v) v l t
-moves_twice pool one two s l v t a b = b ∙ ap (λ (x : List ℕ). moved x v l t) a
 
 -- where a list of moves lies in the memories, so does each part of it
 pub inside_parts : (c o : ℕ) (a b : List Move) → all_inside c o (a ++ b) ≡ true → (all_inside c o a ≡ true) × (all_inside c o b ≡ true)

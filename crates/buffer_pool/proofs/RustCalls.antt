@@ -9,9 +9,11 @@ use borrow.Author.Tests.{ltb-true, ltb-false, eqb-true, eqb-false, lt-ltb, le-le
 use lib.Dec.{leb, ltb, eqb}
 use lib.ListN.{length, take, drop, length-drop, length-set, length-replicate}
 use lib.Seq.{length-take-le, take-take, take_at, take-set-lt}
+use Rattle.std.specs.Prelude.{Ok}
 use Rattle.laws.specs.Tests.{pick}
 use Rattle.laws.specs.Lists.{part, copied}
 use Rattle.laws.proofs.Tests.{no_true}
+use Rattle.buffer_pool.specs.declared.refusals.Refusal.{Refusal}
 use Rattle.buffer_pool.specs.declared.slice.Handle.{Handle}
 use Rattle.buffer_pool.specs.declared.buffer_pool.BufferPool.{BufferPool}
 use Rattle.buffer_pool.specs.declared.buffer_pool.PoolMode.{PoolMode}
@@ -21,13 +23,14 @@ use Rattle.buffer_pool.specs.declared.buffer_pool.Memory.TheVariants.{Pool, Over
 use Rattle.buffer_pool.specs.declared.buffer_pool.Place.{Place}
 use Rattle.buffer_pool.specs.declared.buffer_pool.Answer.TheVariants.{Done}
 use Rattle.buffer_pool.specs.declared.buffer_pool.Called.{Called}
+use Rattle.buffer_pool.specs.declared.refusals.Refusal.TheVariants.{Unsound, WrongLength, CommitTooLong, NotLive}
 use Rattle.buffer_pool.specs.Record.{cut, most_slots, byte_limit, caller_count, framed}
 use Rattle.buffer_pool.specs.Soundness.{is_slot_count}
 use Rattle.buffer_pool.specs.Moves.{Memories, memories, Move, Down, perform}
 use Rattle.buffer_pool.specs.Placing.{place, is_too_long, is_alloc}
 use Rattle.buffer_pool.specs.Sound.{InMode, InAlloc, Orderly}
 use Rattle.buffer_pool.specs.Soundness.{sound}
-use Rattle.buffer_pool.specs.Values.{refusal, values}
+use Rattle.buffer_pool.specs.Values.{refusal_number, refusal, values}
 use Rattle.buffer_pool.specs.Steps.{called, refused, frame_of, frame, reserve_on, reserve_step, resized, reframed, commit_step, truncate_step, handed_out, most_serials, given_to, take_on, take_step, take_moves, names, freed, release_step}
 use Rattle.buffer_pool.specs.Calls.{Outcome, outcome, misfit, guarded, guarded_call, new_on, new, reserve, commit, truncate, copied_out, take as taken, release, bytes_at, written_in, written}
 use Rattle.buffer_pool.specs.Rust.{Run, done, RustPool, InnerMemory, Slice, Pooled, Heap, took, pool, back, system, front_len, in_bounds, raw_data, system_commit, system_frame, system_get_data_owned, system_truncate, commit_raw, get_data_owned_on, memory_get_data_owned, rust_reserve, rust_commit_on, rust_commit, rust_truncate_on, rust_truncate, rust_take_on, rust_take, rust_release, rust_frame_on, rust_frame_bytes, rust_new}
@@ -54,16 +57,16 @@ pub record Works {A : Type 0} (number : A → ℕ) (w : ℕ) (r : BufferPool) (o
   pub is : worked ≡ o
   pub unrefused : number worked ≡ 0
 
-pub unguarded : {A : Type 0} (number : A → ℕ) (refuse : ℕ → A) → ((n : ℕ) → number (refuse n) ≡ n)
+pub unguarded : {A : Type 0} (number : A → ℕ) (refuse : Refusal → A) → ((why : Refusal) → number (refuse why) ≡ refusal_number why)
     → (w : ℕ) (r : BufferPool) (m : Memories) (worked : A) → number (guarded w r m refuse worked) ≡ 0
     → Works number w r (guarded w r m refuse worked) worked
 unguarded number refuse numbered w r m worked = go (sound w r) refl (misfit r m)
   where
-    go : (a : Bool) → sound w r ≡ a → (b : Bool) → number (pick (not a) (refuse 1) (pick b (refuse 2) worked)) ≡ 0
-        → Works number w r (pick (not a) (refuse 1) (pick b (refuse 2) worked)) worked
-    go true p true e = absurd (omega (arith, e, numbered 2))
+    go : (a : Bool) → sound w r ≡ a → (b : Bool) → number (pick (not a) (refuse Unsound) (pick b (refuse WrongLength) worked)) ≡ 0
+        → Works number w r (pick (not a) (refuse Unsound) (pick b (refuse WrongLength) worked)) worked
+    go true p true e = absurd (omega (arith, e, numbered WrongLength))
     go true p false e = record { orderly = (sound_use w r p).orderly; is = refl; unrefused = e }
-    go false p b e = absurd (omega (arith, e, numbered 1))
+    go false p b e = absurd (omega (arith, e, numbered Unsound))
 
 abbrev number_of : Outcome → ℕ
 number_of o = refusal o.call.answer
@@ -133,7 +136,7 @@ module _ {w : ℕ} {r : BufferPool} {m : Memories} {p : RustPool} (O : Orderly w
   commit_agrees n = go (ltb r.reserved n) refl
     where
       step : Bool → Called
-      step t = pick t (refused r 5) (reframed (resized r.mode r ((frame r).length + n)))
+      step t = pick t (refused r CommitTooLong) (reframed (resized r.mode r ((frame r).length + n)))
 
       go : (t : Bool) → ltb r.reserved n ≡ t → refusal (step t).answer ≡ 0 → Leaves (rust_commit p n) (λ q. q) (Stands (step t).pool m)
       go true e z = absurd (omega (arith, z))
@@ -156,7 +159,7 @@ module _ {w : ℕ} {r : BufferPool} {m : Memories} {p : RustPool} (O : Orderly w
   release_agrees h = go (names w r h) refl
     where
       step : Bool → Called
-      step t = pick t (called (freed w r h.slot) Done) (refused r 7)
+      step t = pick t (called (freed w r h.slot) (Ok Done)) (refused r NotLive)
 
       go : (t : Bool) → names w r h ≡ t → refusal (step t).answer ≡ 0 → Leaves (rust_release w p h.slot) (λ q. q) (Stands (step t).pool m)
       go true e z =

@@ -1,6 +1,6 @@
 -- The last live front slot, from what the code of slice.rt knows where it returns. Assumes nothing.
 use mathlib.Core.Path.{◌≡◌, refl, sym, ap, subst, ◌∙◌}
-use Prim.Native.Nat.{ℕ, ◌+◌, ◌-◌, ◌/◌, ◌^◌, ◌≤◌, ◌<◌}
+use Prim.Native.Nat.{ℕ, ◌+◌, ◌-◌, ◌/◌, ◌^◌, ◌≤◌, ◌<◌, min}
 use native.Mathlib.Omega.{arith}
 use lib.Pow.{shr_lt}
 use lib.Count.{count_trailing_zeros, trailing_of_zero}
@@ -31,8 +31,5 @@ module _ (w : ℕ) where
 
   -- the zeros at the bottom of a word of 16 bits, cut at w
   module _ (live : ℕ) (m : w ≤ 16) where
-    pub zeros_past : (z : ℕ) → z ≡ count_trailing_zeros 16 live → w < z → w ≡ count_trailing_zeros w live
-    zeros_past z e h = omega (arith, trailing_wide 16 w live m)
-
-    pub zeros_are : (z : ℕ) → z ≡ count_trailing_zeros 16 live → z ≤ w → z ≡ count_trailing_zeros w live
-    zeros_are z e h = omega (arith, trailing_wide 16 w live m)
+    pub zeros_least : (z : ℕ) → z ≡ count_trailing_zeros 16 live → (min w z ≡ count_trailing_zeros w live) × (min w z ≤ w)
+    zeros_least z e = (omega (arith, trailing_wide 16 w live m), omega arith)

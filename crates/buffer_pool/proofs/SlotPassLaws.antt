@@ -1,7 +1,8 @@
 -- The pass over the slots, run after run, from what the code of sound.rt knows where it turns and returns: what is left to pass decides.
 -- Assumes nothing.
 use mathlib.Core.Path.{◌≡◌, refl, sym, ap, ◌∙◌}
-use mathlib.Core.Bool.{Bool, true, false, not}
+use Rattle.std.specs.Prelude.{Some, None}
+use mathlib.Core.Bool.{Bool, true, false}
 use mathlib.Core.List.{List}
 use Prim.Native.Nat.{ℕ, zero, suc, ◌+◌, ◌-◌, ◌*◌, ◌/◌, ◌%◌, ◌^◌, ◌≤◌, ◌<◌}
 use native.Mathlib.Nat.{le_refl}
@@ -13,7 +14,6 @@ use lib.ListN.{get_or}
 use borrow.Author.Tests.{lt-ltb, lt-leb, le-leb}
 use Rattle.laws.specs.Live.{bit, live_at, last_live}
 use Rattle.laws.proofs.Bits.{bit_shr}
-use Rattle.laws.proofs.Tests.{no_true, not_true, not_false}
 use Rattle.laws.proofs.Words.{up_within, up_none, up_free, up_live, up_on}
 use Rattle.buffer_pool.specs.declared.sound.RunEnd.{RunEnd}
 use Rattle.buffer_pool.specs.SlotPass.{ordered, bits_after, Passed, Runs}
@@ -73,27 +73,12 @@ module _ (w : ℕ) (starts lengths : List ℕ) (live first from : ℕ) where
   pub none_passed : first ≤ w → (bits : ℕ) → bits ≡ bits_after w live first → Passed w starts lengths live first from first from bits
   none_passed h bits e = record { further = le_refl first; within = h; bits_are = e; rest_decides = λ to. refl }
 
-  run_fails : (r : RunEnd) → r.sound ≡ false → ((to : ℕ) → ordered w starts lengths live (w - first) first from to ≡ false)
-      → Runs w starts lengths live first from r
-  run_fails r e f =
-      record { fails = λ _. f; passes = λ h. absurd (no_true (sym e ∙ h)); ends = λ h. absurd (no_true (sym e ∙ h)) }
+  run_fails : ((to : ℕ) → ordered w starts lengths live (w - first) first from to ≡ false) → Runs w starts lengths live first from None
+  run_fails f = record { fails = λ _. f; passes = λ r h. absurd (cc); ends = λ r h. absurd (cc) }
 
   module _ (m : w ≤ 16) (i end word : ℕ) (p : Passed w starts lengths live first from i end word) (t : 2147483648 ≤ word) where
     slot_left : i < w
     slot_left = up_within 32 w live i (omega arith) (λ z. omega (arith, p.bits_are ∙ z, t))
-
-    -- its index in the arrays, and the next one's
-    pub index_within : i < 16
-    index_within = omega (arith, slot_left)
-
-    pub index_bytes : i * 4 < 18446744073709551616
-    index_bytes = omega (arith, slot_left)
-
-    pub index_on : i + 1 < 18446744073709551616
-    index_on = omega (arith, slot_left)
-
-    pub fewer_left : w - (i + 1) < w - i
-    fewer_left = omega (arith, slot_left)
 
     is_live : live_at w live (i + 1) ≡ true
     is_live = up_live 32 w live i (omega arith) slot_left (rw (← p.bits_are) t)
@@ -101,37 +86,34 @@ module _ (w : ℕ) (starts lengths : List ℕ) (live first from : ℕ) where
     turn : (to : ℕ) → ordered w starts lengths live (w - first) first from to ≡ ordered w starts lengths live (suc (w - (i + 1))) i end to
     turn to = p.rest_decides to ∙ ap (λ (k : ℕ). ordered w starts lengths live k i end to) (omega (arith, slot_left))
 
-    module _ (start len : ℕ) (s : start ≡ get_or starts i 0) (n : len ≡ get_or lengths i 0) where
-      pub empty_fails : len ≡ 0 → (r : RunEnd) → r.sound ≡ false → Runs w starts lengths live first from r
+    pub empty_fails : get_or lengths i 0 ≡ 0 → Runs w starts lengths live first from None
+    unfolding ordered
+    empty_fails z = run_fails (λ to. turn to ∙ rw (← add-one i, is_live, z))
+
+    module _ (z : get_or lengths i 0 ≡ 0 → ⊥) where
+      some_length : 0 < get_or lengths i 0
+      some_length = omega (arith, z)
+
+      pub early_fails : get_or starts i 0 < end → Runs w starts lengths live first from None
       unfolding ordered
-      empty_fails z r e = run_fails r e (λ to. turn to ∙ rw (← add-one i, is_live, ← n, z))
+      early_fails k =
+          run_fails (λ to. turn to ∙ rw (← add-one i, is_live, lt-ltb 0 (get_or lengths i 0) some_length, lt-leb end (get_or starts i 0) k))
 
-      module _ (z : len ≡ 0 → ⊥) where
-        some_length : 0 < len
-        some_length = omega (arith, z)
+      live_on : end ≤ get_or starts i 0 → (to : ℕ)
+          → ordered w starts lengths live (w - first) first from to
+          ≡ ordered w starts lengths live (w - (i + 1)) (i + 1) (get_or starts i 0 + get_or lengths i 0) to
+      unfolding ordered
+      live_on k to = turn to ∙ rw (← add-one i, is_live, lt-ltb 0 (get_or lengths i 0) some_length, le-leb end (get_or starts i 0) k)
 
-        pub early_fails : start < end → (r : RunEnd) → r.sound ≡ false → Runs w starts lengths live first from r
-        unfolding ordered
-        early_fails k r e = run_fails r e (λ to. turn to ∙ rw (← add-one i, is_live, ← n, ← s, lt-ltb 0 len some_length, lt-leb end start k))
-
-        live_on : end ≤ start → (stop : ℕ) → stop ≡ start + len → (to : ℕ)
-            → ordered w starts lengths live (w - first) first from to ≡ ordered w starts lengths live (w - (i + 1)) (i + 1) stop to
-        unfolding ordered
-        live_on k stop d to = turn to ∙ rw (← add-one i, is_live, ← n, ← s, lt-ltb 0 len some_length, le-leb end start k, d)
-
-        pub live_passed : end ≤ start → (stop next : ℕ) → stop ≡ start + len → next ≡ (word * 2 ^ 1) % 2 ^ 32
-            → Passed w starts lengths live first from (i + 1) stop next
-        live_passed k stop next d e =
-            record {
-              further = omega (arith, p.further);
-              within = omega (arith, slot_left);
-              bits_are = e ∙ ap (λ (x : ℕ). (x * 2 ^ 1) % 2 ^ 32) p.bits_are ∙ up_on 32 w live i (omega arith);
-              rest_decides = live_on k stop d;
-            }
-
-  pub run_passes : (i end word : ℕ) → Passed w starts lengths live first from i end word → word < 2147483648
-      → Runs w starts lengths live first from (record { sound = true; next = i; end = end; bits = word })
-  run_passes i end word p f = record { fails = λ h. absurd (no_true (sym h)); passes = λ _. p; ends = λ _. f }
+      pub live_passed : end ≤ get_or starts i 0
+          → Passed w starts lengths live first from (i + 1) (get_or starts i 0 + get_or lengths i 0) ((word * 2 ^ 1) % 2 ^ 32)
+      live_passed k =
+          record {
+            further = omega (arith, p.further);
+            within = omega (arith, slot_left);
+            bits_are = ap (λ (x : ℕ). (x * 2 ^ 1) % 2 ^ 32) p.bits_are ∙ up_on 32 w live i (omega arith);
+            rest_decides = live_on k;
+          }
 
 -- ---- The runs one after the other
 
@@ -154,34 +136,30 @@ module _ (w : ℕ) (starts lengths : List ℕ) (live first from to : ℕ) where
       pub run_begins : i ≤ w
       run_begins = omega (arith, begins_within)
 
-      module _ (r : RunEnd) (e : Runs w starts lengths live i end r) where
-        pub run_decides : whole ≡ left i end → not r.sound ≡ true → false ≡ whole
-        run_decides a h = sym (a ∙ e.fails (not_true r.sound h) to)
+      module _ (r : RunEnd) (e : Runs w starts lengths live i end (Some r)) where
+        past : Passed w starts lengths live i end r.next r.end r.bits
+        past = e.passes r refl
 
-        module _ (h : not r.sound ≡ false) where
-          past : Passed w starts lengths live i end r.next r.end r.bits
-          past = e.passes (not_false r.sound h)
+        pub next_on : r.next + 1 < 18446744073709551616
+        next_on = omega (arith, past.within)
 
-          pub next_on : r.next + 1 < 18446744073709551616
-          next_on = omega (arith, past.within)
+        pub fewer_runs : w - (r.next + 1) < w - i
+        fewer_runs = omega (arith, past.further, begins_within)
 
-          pub fewer_runs : w - (r.next + 1) < w - i
-          fewer_runs = omega (arith, past.further, begins_within)
+        pub bits_on : (next : ℕ) → next ≡ (r.bits * 2 ^ 1) % 2 ^ 32 → next ≡ bits_after w live (r.next + 1)
+        bits_on next d =
+            d ∙ ap (λ (x : ℕ). (x * 2 ^ 1) % 2 ^ 32) past.bits_are ∙ up_on 32 w live r.next (omega arith)
 
-          pub bits_on : (next : ℕ) → next ≡ (r.bits * 2 ^ 1) % 2 ^ 32 → next ≡ bits_after w live (r.next + 1)
-          bits_on next d =
-              d ∙ ap (λ (x : ℕ). (x * 2 ^ 1) % 2 ^ 32) past.bits_are ∙ up_on 32 w live r.next (omega arith)
-
-          pub run_on : whole ≡ left i end → whole ≡ left (r.next + 1) r.end
-          unfolding ordered
-          run_on a = a ∙ past.rest_decides to ∙ go (dec_lt r.next w)
-            where
-              go : Dec (r.next < w) → left r.next r.end ≡ left (r.next + 1) r.end
-              go (yes l) =
-                  let more : w - r.next ≡ suc (w - (r.next + 1)) = omega arith in
-                  let free = up_free 32 w live r.next (omega arith) l (rw (← past.bits_are) (e.ends (not_false r.sound h))) in
-                  rw more (rw (← add-one r.next, free))
-              go (no l) =
-                  let none : w - r.next ≡ 0 = omega (arith, l) in
-                  let no_more : w - (r.next + 1) ≡ 0 = omega (arith, l) in
-                  rw (none, no_more)
+        pub run_on : whole ≡ left i end → whole ≡ left (r.next + 1) r.end
+        unfolding ordered
+        run_on a = a ∙ past.rest_decides to ∙ go (dec_lt r.next w)
+          where
+            go : Dec (r.next < w) → left r.next r.end ≡ left (r.next + 1) r.end
+            go (yes l) =
+                let more : w - r.next ≡ suc (w - (r.next + 1)) = omega arith in
+                let free = up_free 32 w live r.next (omega arith) l (rw (← past.bits_are) (e.ends r refl)) in
+                rw more (rw (← add-one r.next, free))
+            go (no l) =
+                let none : w - r.next ≡ 0 = omega (arith, l) in
+                let no_more : w - (r.next + 1) ≡ 0 = omega (arith, l) in
+                rw (none, no_more)

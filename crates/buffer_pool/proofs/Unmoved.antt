@@ -6,7 +6,7 @@ use Prim.Native.Nat.{ℕ, ◌+◌, ◌≤◌, ◌<◌, max}
 use native.Mathlib.Omega.{arith}
 use lib.Dec.{leb, ltb, eqb}
 use lib.Count.{count_leading_zeros, count_trailing_zeros}
-use borrow.Author.Tests.{lt-ltb, le-ltb, le-leb, eq-eqb, ne_eqb, leb-true, leb-false, eqb-true}
+use borrow.Author.Tests.{lt-ltb, le-ltb, le-leb, leb-true, leb-false, eqb-true}
 use Rattle.laws.proofs.Tests.{both_true, no_true, not_true, not_false}
 use Rattle.buffer_pool.specs.declared.buffer_pool.BufferPool.{BufferPool}
 use Rattle.buffer_pool.specs.declared.buffer_pool.PoolFront.{PoolFront}
@@ -14,102 +14,94 @@ use Rattle.buffer_pool.specs.declared.buffer_pool.PoolMode.{PoolMode}
 use Rattle.buffer_pool.specs.declared.buffer_pool.PoolMode.TheVariants.{Back, Front, Alloc}
 use Rattle.buffer_pool.specs.declared.numbers.Numbers.{Numbers}
 use Rattle.buffer_pool.specs.declared.placing.FastPath.{FastPath}
+use Rattle.buffer_pool.specs.declared.placing.FastPath.TheVariants.{Settled, StartsOver, Growing, Moving}
 use Rattle.buffer_pool.specs.Record.{placed}
 use Rattle.buffer_pool.specs.Numbers.{bare}
 use Rattle.buffer_pool.specs.Moves.{Grow, within}
 use Rattle.buffer_pool.specs.Placing.{Decision, stay, first, tail_fits, head_fits, back_fits, back_on, back_layer, front_fits, front_on, front_layer, stays, alloc_on, alloc_layer, layer, place_of, is_alloc, resets, reset_on, reset_moves, reset, place}
-use Rattle.buffer_pool.specs.Deciding.{keeps_in, fits_in, settled, is_starting_over, growing_here, growing, path, fast_path, kept_to, offered}
+use Rattle.buffer_pool.specs.Deciding.{keeps_in, fits_in, settled, starts_over_in, is_starting_over, growing_here, growing, path, fast_path, kept_to, offered}
 
 -- ---- What the code tests
-
-both_false : (o : Bool) → path true false false ≡ path true false (o && false)
-both_false true = refl
-both_false false = refl
-
-both_open : (o : Bool) → path false false o ≡ path false false (o && true)
-both_open true = refl
-both_open false = refl
-
--- does A keep the frame?
-module _ (n : Numbers) (s : Bool) (e : s ≡ stays n.slots false (bare n)) where
-  pub keeps_staying : s ≡ true → true ≡ keeps_in n.slots (bare n)
-  unfolding keeps_in
-  keeps_staying t = rw (← e, t)
-
-  module _ (t : s ≡ false) (l : ℕ) (f : l ≡ count_leading_zeros n.slots n.live) where
-    pub head_free : (l ≡ 0 → ⊥) → false ≡ keeps_in n.slots (bare n)
-    unfolding keeps_in
-    head_free o = rw (← e, t, ← f, ne_eqb l 0 o)
-
-    pub tail_decides : l ≡ 0 → (k : ℕ) → k ≡ count_trailing_zeros n.slots n.live → eqb k 0 ≡ keeps_in n.slots (bare n)
-    unfolding keeps_in
-    tail_decides z k g = rw (← e, t, ← f, eq-eqb l 0 z, g)
 
 -- the path of a frame in A
 module _ (n : Numbers) (len : ℕ) (s : Bool) (e : s ≡ keeps_in n.slots (bare n)) (p : FastPath) where
   abbrev in_alloc : FastPath
   in_alloc = path (fits_in Alloc n.slots (bare n) len) false (growing_here n.slots (bare n) len)
 
-  pub path_gone : not s ≡ true → p ≡ path false false false → p ≡ in_alloc
-  unfolding fits_in growing_here
+  pub path_gone : not s ≡ true → p ≡ Moving → p ≡ in_alloc
+  unfolding fits_in growing_here path
   path_gone t f = f ∙ rw (← e, not_true s t)
 
   module _ (t : not s ≡ false) (k : Bool) (g : k ≡ leb (n.cursor + len + 0) n.kept) where
-    pub path_kept : k ≡ true → p ≡ path true false false → p ≡ in_alloc
-    unfolding fits_in growing_here
-    path_kept h f = f ∙ rw (← e, not_false s t, ← g, h) (both_false (leb (n.cursor + len + 0) n.overflow))
+    pub path_kept : k ≡ true → p ≡ Settled → p ≡ in_alloc
+    unfolding fits_in path
+    path_kept h f = f ∙ rw (← e, not_false s t, ← g, h)
 
-    pub path_past : k ≡ false → (o : Bool) → o ≡ leb (n.cursor + len + 0) n.overflow → p ≡ path false false o → p ≡ in_alloc
-    unfolding fits_in growing_here
-    path_past h o i f = f ∙ rw (← e, not_false s t, ← g, h, ← i) (both_open o)
+    module _ (h : k ≡ false) (o : Bool) (i : o ≡ leb (n.cursor + len + 0) n.overflow) where
+      pub path_grows : o ≡ true → p ≡ Growing → p ≡ in_alloc
+      unfolding fits_in growing_here path
+      path_grows y f = f ∙ rw (← e, not_false s t, ← g, h, ← i, y)
+
+      pub path_short : o ≡ false → p ≡ Moving → p ≡ in_alloc
+      unfolding fits_in growing_here path
+      path_short y f = f ∙ rw (← e, not_false s t, ← g, h, ← i, y)
 
 -- the path of any reserve
 module _ (n : Numbers) (len : ℕ) (r : Bool) (e : r ≡ resets (bare n)) (p : FastPath) where
-  pub path_over : r ≡ true → (b : Bool) → b ≡ is_starting_over (bare n) len → p ≡ path false b false → p ≡ fast_path n.slots (bare n) len
-  unfolding settled growing
-  path_over t b i f = f ∙ rw (i, ← e, t)
+  module _ (t : r ≡ true) (b : Bool) (i : b ≡ starts_over_in (bare n) len) where
+    pub path_over : b ≡ true → p ≡ StartsOver → p ≡ fast_path n.slots (bare n) len
+    unfolding settled is_starting_over growing path
+    path_over y f = f ∙ rw (← e, t, ← i, y)
+
+    pub path_reset : b ≡ false → p ≡ Moving → p ≡ fast_path n.slots (bare n) len
+    unfolding settled is_starting_over growing path
+    path_reset y f = f ∙ rw (← e, t, ← i, y)
 
   module _ (t : r ≡ false) where
-    pub path_back : n.mode ≡ Back → (b : Bool) → b ≡ back_fits n.slots (bare n) len → p ≡ path b false false → p ≡ fast_path n.slots (bare n) len
-    unfolding settled is_starting_over growing fits_in
-    path_back m b i f = f ∙ rw (i, ← e, t, m)
+    module _ (m : n.mode ≡ Back) (b : Bool) (i : b ≡ back_fits n.slots (bare n) len) where
+      pub path_back : b ≡ true → p ≡ Settled → p ≡ fast_path n.slots (bare n) len
+      unfolding settled fits_in path back_fits
+      path_back y f = f ∙ rw (← e, t, m, ← i, y)
 
-    pub path_front : (g : PoolFront) → n.mode ≡ Front g → (b : Bool) → b ≡ (ltb g.len g.back_start && front_fits (bare n) g.byte_capacity len)
-        → p ≡ path b false false → p ≡ fast_path n.slots (bare n) len
-    unfolding settled is_starting_over growing fits_in
-    path_front g m b i f = f ∙ rw (i, ← e, t, m)
+      pub path_back_full : b ≡ false → p ≡ Moving → p ≡ fast_path n.slots (bare n) len
+      unfolding settled is_starting_over growing fits_in path back_fits
+      path_back_full y f = f ∙ rw (← e, t, m, ← i, y)
+
+    module _ (g : PoolFront) (m : n.mode ≡ Front g) (b : Bool) (i : b ≡ (ltb g.len g.back_start && front_fits (bare n) g.byte_capacity len)) where
+      pub path_front : b ≡ true → p ≡ Settled → p ≡ fast_path n.slots (bare n) len
+      unfolding settled fits_in path front_fits is_starting_over growing
+      path_front y f = f ∙ rw (← e, t, m, ← i, y)
+
+      pub path_front_full : b ≡ false → p ≡ Moving → p ≡ fast_path n.slots (bare n) len
+      unfolding settled is_starting_over growing fits_in path front_fits
+      path_front_full y f = f ∙ rw (← e, t, m, ← i, y)
 
     pub path_alloc : n.mode ≡ Alloc → p ≡ path (fits_in Alloc n.slots (bare n) len) false (growing_here n.slots (bare n) len)
         → p ≡ fast_path n.slots (bare n) len
     unfolding settled is_starting_over growing
     path_alloc m f = f ∙ rw (← e, t, m)
 
-module _ (n : Numbers) (len : ℕ) (r : Bool) (e : r ≡ resets (bare n)) where
-  pub no_reset : not r ≡ true → false ≡ is_starting_over (bare n) len
-  unfolding is_starting_over
-  no_reset t = rw (← e, not_true r t)
+-- what each path says of its test
+pub path_settled : (a b c : Bool) → path a b c ≡ Settled → a ≡ true
+unfolding path
+path_settled true b c e = refl
+path_settled false true c e = absurd (cc)
+path_settled false false true e = absurd (cc)
+path_settled false false false e = absurd (cc)
 
-  module _ (t : not r ≡ false) where
-    pub some_frame : (n.raw_len ≡ 0 → ⊥) → false ≡ is_starting_over (bare n) len
-    unfolding is_starting_over
-    some_frame o = go (not (is_alloc n.mode)) ∙ rw (← e, not_false r t, ne_eqb n.raw_len 0 o)
-      where
-        go : (a : Bool) → false ≡ (a && false)
-        go true = refl
-        go false = refl
+pub path_starts_over : (a b c : Bool) → path a b c ≡ StartsOver → b ≡ true
+unfolding path
+path_starts_over true b c e = absurd (cc)
+path_starts_over false true c e = refl
+path_starts_over false false true e = absurd (cc)
+path_starts_over false false false e = absurd (cc)
 
-    module _ (z : n.raw_len ≡ 0) where
-      pub over_back : n.mode ≡ Back → leb len n.capacity ≡ is_starting_over (bare n) len
-      unfolding is_starting_over
-      over_back m = rw (← e, not_false r t, m, eq-eqb n.raw_len 0 z)
-
-      pub over_front : (f : PoolFront) → n.mode ≡ Front f → leb len n.capacity ≡ is_starting_over (bare n) len
-      unfolding is_starting_over
-      over_front f m = rw (← e, not_false r t, m, eq-eqb n.raw_len 0 z)
-
-      pub over_alloc : n.mode ≡ Alloc → false ≡ is_starting_over (bare n) len
-      unfolding is_starting_over
-      over_alloc m = rw (← e, not_false r t, m)
+pub path_growing : (a b c : Bool) → path a b c ≡ Growing → c ≡ true
+unfolding path
+path_growing true b c e = absurd (cc)
+path_growing false true c e = absurd (cc)
+path_growing false false true e = refl
+path_growing false false false e = absurd (cc)
 
 -- ---- What they decide
 
@@ -147,7 +139,7 @@ settled_place r len e =
 
 -- a reset puts an empty frame of the pool at its start
 pub over_place : (r : BufferPool) (len : ℕ) → 0 < r.slots → is_starting_over r len ≡ true → place r.slots r len ≡ unmoved (placed r Back 0 0 0 0) len
-unfolding is_starting_over place reset reset_on reset_moves back_fits fits_in
+unfolding is_starting_over starts_over_in place reset reset_on reset_moves back_fits fits_in
 over_place r len y e =
     let a = both_true (resets r) _ e in
     let b = both_true (not (is_alloc r.mode)) _ a.1 in

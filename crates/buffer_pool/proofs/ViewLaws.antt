@@ -1,6 +1,6 @@
 -- The views and the writes, from what the code of views.rt knows where it returns: a refused view is hidden, and another's place
 -- (ViewPlaces.antt) is a part of its memory. Assumes nothing.
-use mathlib.Core.Path.{◌≡◌, refl, sym, ap, ◌∙◌, subst}
+use mathlib.Core.Path.{◌≡◌, refl, ap, ◌∙◌, subst}
 use mathlib.Core.Bool.{Bool, true, false, not}
 use mathlib.Core.List.{List}
 use Prim.Native.Nat.{ℕ, ◌+◌, ◌-◌, ◌≤◌, ◌<◌}
@@ -8,6 +8,7 @@ use native.Mathlib.Nat.{add-sub_cancel_left}
 use lib.Dec.{ltb}
 use lib.ListN.{length, take, drop, set}
 use borrow.Author.Tests.{lt-ltb, le-ltb}
+use Rattle.std.specs.Prelude.{Ok, Result, ⊤}
 use Rattle.laws.specs.Tests.{pick}
 use Rattle.laws.specs.Lists.{part}
 use Rattle.laws.proofs.Tests.{not_true, not_false}
@@ -17,35 +18,20 @@ use Rattle.buffer_pool.specs.declared.buffer_pool.Memory.{Memory}
 use Rattle.buffer_pool.specs.declared.buffer_pool.Memory.TheVariants.{Pool, Overflow}
 use Rattle.buffer_pool.specs.declared.buffer_pool.Place.{Place}
 use Rattle.buffer_pool.specs.Moves.{Memories, memories}
-use Rattle.buffer_pool.specs.Soundness.{sound}
 use Rattle.buffer_pool.specs.Steps.{at, frame_of, names}
-use Rattle.buffer_pool.specs.declared.buffer_pool.View.{View}
-use Rattle.buffer_pool.specs.Calls.{misfit, guarded, cause, shown, hidden, slice_view, memory_at, bytes_at, written, moved_on, place_at, Lies}
+use Rattle.buffer_pool.specs.Values.{View, view_place, told}
+use Rattle.buffer_pool.specs.declared.refusals.Refusal.{Refusal}
+use Rattle.buffer_pool.specs.declared.refusals.Refusal.TheVariants.{NotLive}
+use Rattle.buffer_pool.specs.Calls.{guard, shown, hidden, slice_view, memory_at, bytes_at, written, moved_on, place_at, Lies}
 use Rattle.buffer_pool.proofs.Soundness.{sound_use}
 use Rattle.buffer_pool.proofs.ViewPlaces.{slice_lies, slice_pool}
-use Rattle.buffer_pool.proofs.CallLaws.{guarded_by, passed_by, through_sound, frame_end_lem}
+use Rattle.buffer_pool.proofs.CallLaws.{through, through_sound, frame_end_lem}
 
 -- ---- A view that may be refused with 1 or 2
 
-module _ (p : BufferPool) (m : Memories) (k : ℕ) (e : k ≡ cause p.slots p m) where
-  module _ (v : View) where
-    turned : (k ≡ 0 → ⊥) → hidden k ≡ guarded p.slots p m hidden v
-    unfolding cause
-    turned n = ap hidden e ∙ guarded_by (sound p.slots p) (misfit p m) hidden v (λ z. n (e ∙ z))
-
-    through : k ≡ 0 → v ≡ guarded p.slots p m hidden v
-    unfolding cause
-    through z = passed_by (sound p.slots p) (misfit p m) hidden v (sym e ∙ z)
-
-    pub turned_view : (k ≡ 0 → ⊥) → (q : View) → q ≡ hidden k → q ≡ guarded p.slots p m hidden v
-    turned_view n q f = f ∙ turned n
-
-  -- the reservation starts where the frame ends, at a 64-bit number
-  pub through_sum : k ≡ 0 → (frame_of p.mode p).start + (frame_of p.mode p).length ≤ 18446744073709551615
-  through_sum z = let S = sound_use p.slots p (through_sound p m k e z) in frame_end_lem p.slots p S.orderly S.capacity_limit S.overflow_limit
-
-  pub through_view : (f : Place) → k ≡ 0 → (x : Place) → x ≡ f → (q : View) → q ≡ shown x → q ≡ guarded p.slots p m hidden (shown f)
-  through_view f z x g q i = i ∙ ap shown g ∙ through (shown f) z
+-- the reservation starts where the frame ends, at a 64-bit number
+pub through_sum : (p : BufferPool) (m : Memories) → Ok tt ≡ guard p.slots p m → (frame_of p.mode p).start + (frame_of p.mode p).length ≤ 18446744073709551615
+through_sum p m e = let S = sound_use p.slots p (through_sound p m e) in frame_end_lem p.slots p S.orderly S.capacity_limit S.overflow_limit
 
 -- ---- Parts of the memories
 
@@ -112,47 +98,44 @@ module _ (pool overflow : List ℕ) (q : Place) (i byte : ℕ) (after : List ℕ
       go true = refl
       go false = refl
 
--- what is known of a view's place holds of the view that it equals
+-- ---- A write through a view
+
 module _ (v view : View) (e : v ≡ view) where
-  pub bytes_there : (m : Memories) (bytes : List ℕ) → bytes ≡ bytes_at m v.place → bytes ≡ bytes_at m view.place
-  bytes_there m bytes f = f ∙ ap (λ (x : View). bytes_at m x.place) e
+  pub told_there : (r : Result ⊤ Refusal) → r ≡ told v → r ≡ told view
+  told_there r f = f ∙ ap told e
 
-  pub pointer_there : (pool overflow pointer : ℕ × ℕ) → pointer ≡ place_at pool overflow v.place → pointer ≡ place_at pool overflow view.place
-  pointer_there pool overflow pointer f = f ∙ ap (λ (x : View). place_at pool overflow x.place) e
-
-  pub written_there : (m after : Memories) (i byte : ℕ) → after ≡ written m v.place i byte → after ≡ written m view.place i byte
-  written_there m after i byte f = f ∙ ap (λ (x : View). written m x.place i byte) e
-
-  pub number_there : v.number ≡ view.number
-  number_there = ap (λ (x : View). x.number) e
+  pub written_there : (m after : Memories) (q : Place) → q ≡ view_place v → (i byte : ℕ) → after ≡ written m q i byte → after ≡ written m (view_place view) i byte
+  written_there m after q f i byte g = g ∙ ap (λ (x : Place). written m x i byte) (f ∙ ap view_place e)
 
 -- ---- The slice of a handle
 
-module _ (p : BufferPool) (pool overflow : List ℕ) (h : Handle) (v : View) (e : v ≡ slice_view p.slots p (memories pool overflow) h) where
-  pub slice_within : v.place.start + v.place.length ≤ length pool
-  slice_within = rw e (slice_lies p.slots p (memories pool overflow) h)
+module _ (p : BufferPool) (pool overflow : List ℕ) (h : Handle) (v : View) (e : v ≡ slice_view p.slots p (memories pool overflow) h) (q : Place) (f : q ≡ view_place v) where
+  place_is : q ≡ view_place (slice_view p.slots p (memories pool overflow) h)
+  place_is = f ∙ ap view_place e
 
-  in_pool : v.place.memory ≡ Pool
-  in_pool = ap (λ (x : View). x.place.memory) e ∙ slice_pool p.slots p (memories pool overflow) h
+  pub slice_within : q.start + q.length ≤ length pool
+  slice_within = rw place_is (slice_lies p.slots p (memories pool overflow) h)
 
-  pub slice_bytes : (bytes : List ℕ) → bytes ≡ part pool v.place.start v.place.length
-      → bytes ≡ bytes_at (memories pool overflow) (slice_view p.slots p (memories pool overflow) h).place
-  slice_bytes bytes f = bytes_there v _ e (memories pool overflow) bytes (bytes_pool pool overflow v.place in_pool bytes f)
+  in_pool : q.memory ≡ Pool
+  in_pool = ap (λ (x : Place). x.memory) place_is ∙ slice_pool p.slots p (memories pool overflow) h
 
-  pub slice_written : (i byte : ℕ) (after : List ℕ) → after ≡ set_at pool v.place i byte
-      → memories after overflow ≡ written (memories pool overflow) (slice_view p.slots p (memories pool overflow) h).place i byte
-  slice_written i byte after f =
-      written_there v _ e (memories pool overflow) (memories after overflow) i byte
-      (written_pool pool overflow v.place i byte after in_pool f)
+  pub slice_bytes : (bytes : List ℕ) → bytes ≡ part pool q.start q.length
+      → bytes ≡ bytes_at (memories pool overflow) (view_place (slice_view p.slots p (memories pool overflow) h))
+  slice_bytes bytes g = bytes_pool pool overflow q in_pool bytes g ∙ ap (bytes_at (memories pool overflow)) place_is
 
-  pub slice_pointer : (a b pointer : ℕ × ℕ) → pointer ≡ moved_on a v.place.start → pointer ≡ place_at a b (slice_view p.slots p (memories pool overflow) h).place
-  slice_pointer a b pointer f = pointer_there v _ e a b pointer (pointer_pool a b v.place pointer in_pool f)
+  pub slice_written : (i byte : ℕ) (after : List ℕ) → after ≡ set_at pool q i byte
+      → memories after overflow ≡ written (memories pool overflow) (view_place (slice_view p.slots p (memories pool overflow) h)) i byte
+  slice_written i byte after g =
+      written_pool pool overflow q i byte after in_pool g ∙ ap (λ (x : Place). written (memories pool overflow) x i byte) place_is
 
-module _ (p : BufferPool) (m : Memories) (k : ℕ) (e : k ≡ cause p.slots p m) (z : k ≡ 0) (h : Handle) (b : Bool) (f : b ≡ names p.slots p h) where
-  pub unnamed_view : not b ≡ true → (q : View) → q ≡ hidden 7 → q ≡ slice_view p.slots p m h
+  pub slice_pointer : (a b pointer : ℕ × ℕ) → pointer ≡ moved_on a q.start → pointer ≡ place_at a b (view_place (slice_view p.slots p (memories pool overflow) h))
+  slice_pointer a b pointer g = pointer_pool a b q pointer in_pool g ∙ ap (place_at a b) place_is
+
+module _ (p : BufferPool) (m : Memories) (e : Ok tt ≡ guard p.slots p m) (h : Handle) (b : Bool) (f : b ≡ names p.slots p h) where
+  pub unnamed_view : not b ≡ true → hidden NotLive ≡ slice_view p.slots p m h
   unfolding slice_view
-  unnamed_view t q g = g ∙ through p m k e (hidden 7) z ∙ rw (← f, not_true b t)
+  unnamed_view t = through p m e hidden (hidden NotLive) ∙ rw (← f, not_true b t)
 
-  pub named_view : not b ≡ false → (q : View) → q ≡ shown (at Pool h.start h.length) → q ≡ slice_view p.slots p m h
+  pub named_view : not b ≡ false → shown (at Pool h.start h.length) ≡ slice_view p.slots p m h
   unfolding slice_view
-  named_view t q g = g ∙ through p m k e (shown (at Pool h.start h.length)) z ∙ rw (← f, not_false b t)
+  named_view t = through p m e hidden (shown (at Pool h.start h.length)) ∙ rw (← f, not_false b t)

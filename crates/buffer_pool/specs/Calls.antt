@@ -1,6 +1,6 @@
 -- The calls, SPECIFICATION 7, for every record, handle, length and lent memory: answer, record and every lent byte, on refusal as
 -- on success. The contracts of the public functions are equations with these. w is the slot count.
-use Rattle.std.specs.Prelude.{Bool, not, ◌&&◌, ◌||◌, List, [], ℕ, ◌+◌, ◌≤◌, ltb, eqb, length, replicate, set}
+use Rattle.std.specs.Prelude.{Bool, not, ◌&&◌, ◌||◌, Result, Ok, Err, ⊤, List, [], ℕ, ◌+◌, ◌≤◌, ltb, eqb, length, replicate, set}
 use Rattle.laws.specs.Tests.{pick}
 use Rattle.laws.specs.Lists.{part, copied}
 use Rattle.buffer_pool.specs.declared.slice.Handle.{Handle}
@@ -8,14 +8,15 @@ use Rattle.buffer_pool.specs.declared.buffer_pool.BufferPool.{BufferPool}
 use Rattle.buffer_pool.specs.declared.buffer_pool.Memory.{Memory}
 use Rattle.buffer_pool.specs.declared.buffer_pool.Memory.TheVariants.{Pool, Overflow}
 use Rattle.buffer_pool.specs.declared.buffer_pool.Place.{Place}
-use Rattle.buffer_pool.specs.declared.buffer_pool.View.{View}
 use Rattle.buffer_pool.specs.declared.buffer_pool.Answer.TheVariants.{Done}
 use Rattle.buffer_pool.specs.declared.buffer_pool.Called.{Called}
+use Rattle.buffer_pool.specs.declared.refusals.Refusal.{Refusal}
+use Rattle.buffer_pool.specs.declared.refusals.Refusal.TheVariants.{Unsound, WrongLength, MemoryTooLong, NotLive, WrongSlotCount}
 use Rattle.buffer_pool.specs.Record.{rust_slots, byte_limit, new_record}
 use Rattle.buffer_pool.specs.Moves.{Memories, memories, perform}
 use Rattle.buffer_pool.specs.Placing.{place, is_too_long}
 use Rattle.buffer_pool.specs.Soundness.{is_slot_count, sound}
-use Rattle.buffer_pool.specs.Values.{no_place, values}
+use Rattle.buffer_pool.specs.Values.{View, refusal_number, values}
 use Rattle.buffer_pool.specs.Steps.{called, refused, at, frame, reservation, reserve_step, commit_step, truncate_step, take_step, take_moves, names, release_step}
 
 -- what a call leaves: record and answer, the two memories, and a take's destination ([] for the other calls)
@@ -33,36 +34,40 @@ outcome call memory destination = record { call = call; memory = memory; destina
 unfoldable pub misfit : BufferPool → Memories → Bool
 misfit r m = not (eqb (length m.pool) r.capacity && eqb (length m.overflow) r.overflow)
 
--- an answer by number where cause 1 or 2 holds, otherwise the call's own
-abbrev pub guarded : {A : Type 0} → ℕ → BufferPool → Memories → (ℕ → A) → A → A
-guarded w r m refuse done = pick (not (sound w r)) (refuse 1) (pick (misfit r m) (refuse 2) done)
+-- a refusal where cause 1 or 2 holds, otherwise the call's own answer
+abbrev pub guarded : {A : Type 0} → ℕ → BufferPool → Memories → (Refusal → A) → A → A
+guarded w r m refuse done = pick (not (sound w r)) (refuse Unsound) (pick (misfit r m) (refuse WrongLength) done)
 
 -- the number of the cause that turns every call away, or 0
 unfoldable pub cause : ℕ → BufferPool → Memories → ℕ
-cause w r m = guarded w r m (λ number. number) 0
+cause w r m = guarded w r m refusal_number 0
+
+-- the same as the code has it: the refusal that turns every call away, if there is one
+unfoldable pub guard : ℕ → BufferPool → Memories → Result ⊤ Refusal
+guard w r m = guarded w r m (λ why. Err why) (Ok tt)
 
 -- a call that is refused with 1 or 2 leaves everything
 abbrev pub guarded_call : ℕ → BufferPool → Memories → List ℕ → Outcome → Outcome
-guarded_call w r m destination done = guarded w r m (λ number. outcome (refused r number) m destination) done
+guarded_call w r m destination done = guarded w r m (λ why. outcome (refused r why) m destination) done
 
 -- ---- The calls
 
 -- SPECIFICATION 3.5: "A refused new gives the record of a new pool of 8 slots whose two lengths are 0, and changes no byte."
-abbrev pub new_refused_by : ℕ → Called
-new_refused_by number = refused (new_record rust_slots 0 0) number
+abbrev pub new_refused_by : Refusal → Called
+new_refused_by why = refused (new_record rust_slots 0 0) why
 
-abbrev pub new_refused : ℕ → Memories → Outcome
-new_refused number m = outcome (new_refused_by number) m []
+abbrev pub new_refused : Refusal → Memories → Outcome
+new_refused why m = outcome (new_refused_by why) m []
 
 -- SPECIFICATION 7.1: "every byte of the pool memory becomes 0; the overflow's bytes stay; the record is that of 2.1"
 abbrev pub new_done : ℕ → Memories → Outcome
 new_done w m =
-    outcome (called (new_record w (length m.pool) (length m.overflow)) Done)
+    outcome (called (new_record w (length m.pool) (length m.overflow)) (Ok Done))
     (memories (replicate (length m.pool) 0) m.overflow) []
 
 -- is w a slot count? is a memory too long?
 abbrev pub new_on : Bool → Bool → ℕ → Memories → Outcome
-new_on counted long w m = pick counted (pick long (new_refused 3 m) (new_done w m)) (new_refused 16 m)
+new_on counted long w m = pick counted (pick long (new_refused MemoryTooLong m) (new_done w m)) (new_refused WrongSlotCount m)
 
 -- cause 16, "the slot count is neither 8 nor 16", comes before cause 3: "either memory has more than 1,048,576 bytes"
 unfoldable pub new : ℕ → Memories → Outcome
@@ -97,12 +102,11 @@ release w r m h = guarded_call w r m [] (outcome (release_step w r h) m [])
 -- ---- The views
 
 abbrev pub shown : Place → View
-shown place = record { number = 0; place = place }
+shown place = Ok place
 
--- SPECIFICATION 3.6: "A refused view is an empty place: the pool memory, start 0, length 0. A call with the arguments of the view
--- tells its refusal, or 0."
-abbrev pub hidden : ℕ → View
-hidden number = record { number = number; place = no_place }
+-- a refused view (SPECIFICATION 3.6)
+abbrev pub hidden : Refusal → View
+hidden why = Err why
 
 unfoldable pub frame_view : ℕ → BufferPool → Memories → View
 frame_view w r m = guarded w r m hidden (shown (frame r))
@@ -111,7 +115,7 @@ unfoldable pub reservation_view : ℕ → BufferPool → Memories → View
 reservation_view w r m = guarded w r m hidden (shown (reservation r))
 
 unfoldable pub slice_view : ℕ → BufferPool → Memories → Handle → View
-slice_view w r m h = guarded w r m hidden (pick (names w r h) (shown (at Pool h.start h.length)) (hidden 7))
+slice_view w r m h = guarded w r m hidden (pick (names w r h) (shown (at Pool h.start h.length)) (hidden NotLive))
 
 -- the memory of a place, and the bytes there
 abbrev pub memory_at : Memory → Memories → List ℕ

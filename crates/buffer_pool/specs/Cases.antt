@@ -1,6 +1,6 @@
 -- The cases of SPECIFICATION 11 as a table of calls and of what each must show, and how the table is run on the definitions and on
 -- the Rust's. proofs/Cases.antt has the theorem.
-use Rattle.std.specs.Prelude.{List, [], ◌∷◌, ◌++◌, map, ℕ, ◌+◌, ◌-◌, length, replicate}
+use Rattle.std.specs.Prelude.{Ok, List, [], ◌∷◌, ◌++◌, map, ℕ, ◌+◌, ◌-◌, length, replicate}
 use Rattle.laws.specs.Lists.{part, copied}
 use Rattle.buffer_pool.specs.declared.slice.Handle.{Handle}
 use Rattle.buffer_pool.specs.declared.buffer_pool.BufferPool.{BufferPool}
@@ -200,7 +200,7 @@ entry r p =
 
 unfoldable pub play : BufferPool → Memories → CaseCall → Outcome
 play r m (Reserve n) = calls.reserve rust_slots r m n
-play r m (Write bytes) = calls.outcome (record { pool = r; answer = Done }) (write_in (reservation r).memory m (reservation r).start bytes) []
+play r m (Write bytes) = calls.outcome (record { pool = r; answer = Ok Done }) (write_in (reservation r).memory m (reservation r).start bytes) []
 play r m (Commit n) = calls.commit rust_slots r m n
 play r m (Truncate n) = calls.truncate rust_slots r m n
 play r m Take = calls.take rust_slots r m 0 (strange r.overflow)

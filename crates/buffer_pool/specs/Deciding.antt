@@ -1,6 +1,6 @@
 -- What the code gives while it places a frame (src/placing.rt, route.rt), read as the records of Placing.antt. S and L are the arrays
 -- lent to it, the record's starts and lengths.
-use Rattle.std.specs.Prelude.{◌≡◌, Bool, true, false, not, ◌&&◌, ◌||◌, List, [], ◌∷◌, ◌++◌, ℕ, ◌+◌, ◌-◌, ◌^◌, ◌≤◌, ◌<◌, max, leb, ltb, eqb, length, replicate}
+use Rattle.std.specs.Prelude.{◌≡◌, Bool, true, false, not, ◌&&◌, ◌||◌, List, [], ◌∷◌, ◌++◌, ℕ, ◌+◌, ◌-◌, ◌^◌, ◌≤◌, ◌<◌, max, leb, ltb, eqb, length, replicate, Option, Some, None}
 use Rattle.std.specs.Int.Count.{count_leading_zeros, count_trailing_zeros}
 use Rattle.laws.specs.Tests.{pick}
 use Rattle.buffer_pool.specs.declared.buffer_pool.BufferPool.{BufferPool}
@@ -8,9 +8,13 @@ use Rattle.buffer_pool.specs.declared.buffer_pool.PoolMode.{PoolMode}
 use Rattle.buffer_pool.specs.declared.buffer_pool.PoolMode.TheVariants.{Back, Front, Alloc}
 use Rattle.buffer_pool.specs.declared.numbers.Numbers.{Numbers}
 use Rattle.buffer_pool.specs.declared.route.Route.{Route}
-use Rattle.buffer_pool.specs.declared.placing.Cleared.{Cleared}
 use Rattle.buffer_pool.specs.declared.placing.FastPath.{FastPath}
+use Rattle.buffer_pool.specs.declared.placing.FastPath.TheVariants.{Settled, StartsOver, Growing, Moving}
+use Rattle.buffer_pool.specs.declared.placing.ResetEffect.{ResetEffect}
+use Rattle.buffer_pool.specs.declared.placing.ResetEffect.TheVariants.{Nothing, BringsFrame, ClearsEntries}
 use Rattle.buffer_pool.specs.declared.placing.Start.{Start}
+use Rattle.buffer_pool.specs.declared.placing.ModeChange.{ModeChange}
+use Rattle.buffer_pool.specs.declared.placing.ModeChange.TheVariants.{Stays, Changes, GoesOut}
 use Rattle.buffer_pool.specs.declared.placing.ModeStep.{ModeStep}
 use Rattle.buffer_pool.specs.declared.placing.Decided.{Decided}
 use Rattle.buffer_pool.specs.Record.{most_slots, placed, framed}
@@ -39,29 +43,47 @@ pub record Placeable (w : ℕ) (r : BufferPool) : Type 0 where
   pub no_cursor : is_alloc r.mode ≡ false → r.cursor ≡ 0
   pub no_len : is_alloc r.mode ≡ true → r.raw_len ≡ 0
 
--- a clear that was tried: the numbers after it where the test holds, and those before where not
-unfoldable pub cleared_on : Bool → Numbers → Numbers → Cleared
-cleared_on true after before = record { cleared = true; numbers = after }
-cleared_on false after before = record { cleared = false; numbers = before }
+-- a clear that was tried: the numbers after it, where the test holds
+unfoldable pub cleared_on : Bool → Numbers → Option Numbers
+cleared_on true after = Some after
+cleared_on false after = None
 
 -- ---- One call of `reserve_`
 
-abbrev pub step : Bool → Bool → ℕ → Numbers → ModeStep
-step again entered via n = record { again = again; entered = entered; via = via; numbers = n }
+abbrev pub step : ModeChange → ℕ → Numbers → ModeStep
+step change via n = record { change = change; via = via; numbers = n }
 
 -- out to the overflow
 abbrev pub gone_out : Numbers → ModeStep
-gone_out n = step true true n.raw_offset (numbers_of (to_alloc (bare n)))
+gone_out n = step GoesOut n.raw_offset (numbers_of (to_alloc (bare n)))
+
+-- is the frame placed again?
+abbrev pub is_again : ModeChange → Bool
+is_again Stays = false
+is_again Changes = true
+is_again GoesOut = true
+
+-- was the overflow entered?
+abbrev pub is_out : ModeChange → Bool
+is_out Stays = false
+is_out Changes = false
+is_out GoesOut = true
 
 -- the moves of a step from these numbers: by `via`, then out or to its own place
 unfoldable pub step_moves : Numbers → ModeStep → List Move
 step_moves n m =
     within n.raw_offset n.raw_len m.via
-    ++ pick m.entered (Out m.via n.raw_len ∷ []) (within m.via n.raw_len m.numbers.raw_offset)
+    ++ pick (is_out m.change) (Out m.via n.raw_len ∷ []) (within m.via n.raw_len m.numbers.raw_offset)
 
 unfoldable pub layer_of : List ℕ → List ℕ → Numbers → ModeStep → Layer
 layer_of S L n m =
-    record { again = m.again; entered = m.entered; mode = m.numbers.mode; pool = plain m.numbers S L; moves = step_moves n m }
+    record {
+      again = is_again m.change;
+      entered = is_out m.change;
+      mode = m.numbers.mode;
+      pool = plain m.numbers S L;
+      moves = step_moves n m;
+    }
 
 -- ---- The way of the frame
 
@@ -104,10 +126,10 @@ following moves changes d = record { next = d.next; changes = changes + d.change
 unfoldable pub finished : BufferPool → ℕ → Decision
 finished r len = finish r.mode r [] len
 
-abbrev pub decided : Bool → Numbers → ℕ → ℕ → Route → Decided
-decided long n changes kept route = record { too_long = long; numbers = n; changes = changes; kept = kept; route = route }
+abbrev pub decided : Numbers → ℕ → ℕ → Route → Decided
+decided n changes kept route = record { numbers = n; changes = changes; kept = kept; route = route }
 
--- the code's decision, where the overflow is not too short
+-- the code's decision
 unfoldable pub decision_of : List ℕ → List ℕ → Decided → Decision
 decision_of S L d =
     record {
@@ -117,50 +139,64 @@ decision_of S L d =
       heap = is_alloc d.numbers.mode;
     }
 
--- the reservation made by the code where the frame lies, with no mode but A grown
-unfoldable pub finished_on : PoolMode → Numbers → Route → ℕ → ℕ → Decided
+-- the reservation made by the code where the frame lies, with no mode but A grown; none where the overflow is too short for it
+unfoldable pub finished_on : PoolMode → Numbers → Route → ℕ → ℕ → Option Decided
 finished_on Back n g changes len =
-    decided false (numbers_of (framed (bare n) n.mode n.raw_offset n.raw_len n.kept n.cursor len)) changes n.kept g
+    Some (decided (numbers_of (framed (bare n) n.mode n.raw_offset n.raw_len n.kept n.cursor len)) changes n.kept g)
 finished_on (Front f) n g changes len =
-    decided false (numbers_of (framed (bare n) n.mode n.raw_offset n.raw_len n.kept n.cursor len)) changes n.kept g
+    Some (decided (numbers_of (framed (bare n) n.mode n.raw_offset n.raw_len n.kept n.cursor len)) changes n.kept g)
 finished_on Alloc n g changes len =
     pick (leb (n.cursor + len + 0) n.overflow)
-    (decided false
+    (Some
+    (decided
     (numbers_of (framed (bare n) Alloc n.raw_offset n.raw_len (max n.kept (n.cursor + len)) n.cursor len)) changes
-    n.kept g)
-    (decided true n changes n.kept g)
+    n.kept g))
+    None
 
--- what the code decides: whether the overflow is too short (cause 4), and if not, the decision
-pub record Decides (S L : List ℕ) (c : Decided) (d : Decision) (len : ℕ) : Type 0 where
-  pub too_long : c.too_long ≡ is_too_long d len
-  pub decision : is_too_long d len ≡ false → decision_of S L c ≡ d
+-- what the code decides: none where the overflow is too short (cause 4), and else the decision
+pub record Decides (S L : List ℕ) (c : Option Decided) (d : Decision) (len : ℕ) : Type 0 where
+  pub too_long : c ≡ None → is_too_long d len ≡ true
+  pub fits : (x : Decided) → c ≡ Some x → is_too_long d len ≡ false
+  pub decision : (x : Decided) → c ≡ Some x → decision_of S L x ≡ d
 
 -- ---- The reset
 
-abbrev pub start : Bool → Bool → Numbers → Start
-start brought clears n = record { numbers = n; brought = brought; clears = clears }
+abbrev pub start : ResetEffect → Numbers → Start
+start effect n = record { numbers = n; effect = effect }
 
 -- where a reserve starts, by the tests of Placing's `reset_on`
 unfoldable pub start_on : Bool → Bool → Bool → PoolMode → Numbers → Start
-start_on false t z mode n = start false false n
-start_on true t z Back n = start false false (numbers_of (placed (bare n) Back 0 0 0 0))
-start_on true t z (Front f) n = start false false (numbers_of (placed (bare n) Back 0 0 0 0))
-start_on true true true Alloc n = start false true (numbers_of (placed (bare n) Back 0 0 0 0))
+start_on false t z mode n = start Nothing n
+start_on true t z Back n = start Nothing (numbers_of (placed (bare n) Back 0 0 0 0))
+start_on true t z (Front f) n = start Nothing (numbers_of (placed (bare n) Back 0 0 0 0))
+start_on true true true Alloc n = start ClearsEntries (numbers_of (placed (bare n) Back 0 0 0 0))
 start_on true true false Alloc n =
-    start true false (numbers_of (framed (placed (bare n) Back 0 0 0 0) Back 0 n.cursor (n.kept - n.cursor) 0 n.reserved))
-start_on true false z Alloc n = start false false (numbers_of (placed (bare n) Alloc n.back_start n.back_len 0 n.raw_offset))
+    start BringsFrame (numbers_of (framed (placed (bare n) Back 0 0 0 0) Back 0 n.cursor (n.kept - n.cursor) 0 n.reserved))
+start_on true false z Alloc n = start Nothing (numbers_of (placed (bare n) Alloc n.back_start n.back_len 0 n.raw_offset))
 
 unfoldable pub start_of : Numbers → Start
 start_of n = start_on (resets (bare n)) (ltb n.cursor n.capacity) (eqb n.cursor 0) n.mode n
 
+-- do the entries of all slots become 0?
+abbrev pub is_clearing : ResetEffect → Bool
+is_clearing Nothing = false
+is_clearing BringsFrame = false
+is_clearing ClearsEntries = true
+
+-- is the frame brought in from the overflow?
+abbrev pub is_bringing : ResetEffect → Bool
+is_bringing Nothing = false
+is_bringing BringsFrame = true
+is_bringing ClearsEntries = false
+
 -- an array of the slots where a reserve starts
 unfoldable pub entries : Start → List ℕ → List ℕ
-entries s S = pick s.clears (replicate (length S) 0) S
+entries s S = pick (is_clearing s.effect) (replicate (length S) 0) S
 
 -- the moves of the reset, from these numbers
 unfoldable pub start_moves : Numbers → Start → List Move
 start_moves n s =
-    pick s.brought (In n.cursor ∷ Down n.cursor (n.kept - n.cursor) ∷ [])
+    pick (is_bringing s.effect) (In n.cursor ∷ Down n.cursor (n.kept - n.cursor) ∷ [])
     (within n.raw_offset n.raw_len s.numbers.raw_offset)
 
 -- all moves of a reserve
@@ -183,9 +219,13 @@ fits_in Alloc w r len = keeps_in w r && leb (r.cursor + len + 0) r.kept
 unfoldable pub settled : ℕ → BufferPool → ℕ → Bool
 settled w r len = not (resets r) && fits_in r.mode w r len
 
--- a reset with an empty frame in the pool, which has room for len bytes
+-- an empty frame in the pool, which has room for len bytes
+unfoldable pub starts_over_in : BufferPool → ℕ → Bool
+starts_over_in r len = not (is_alloc r.mode) && (eqb r.raw_len 0 && leb len r.capacity)
+
+-- a reset of it
 unfoldable pub is_starting_over : BufferPool → ℕ → Bool
-is_starting_over r len = resets r && (not (is_alloc r.mode) && (eqb r.raw_len 0 && leb len r.capacity))
+is_starting_over r len = resets r && starts_over_in r len
 
 -- the frame stays in A and needs zeros after the kept bytes, which the overflow has room for
 unfoldable pub growing_here : ℕ → BufferPool → ℕ → Bool
@@ -195,9 +235,12 @@ growing_here w r len = keeps_in w r && (leb (r.cursor + len + 0) r.overflow && n
 unfoldable pub growing : ℕ → BufferPool → ℕ → Bool
 growing w r len = not (resets r) && (is_alloc r.mode && growing_here w r len)
 
--- which of these a reserve is, if any
-abbrev pub path : Bool → Bool → Bool → FastPath
-path settled over growing = record { settled = settled; starts_over = over; growing = growing }
+-- which of these a reserve is, or one that moves the frame
+unfoldable pub path : Bool → Bool → Bool → FastPath
+path true over growing = Settled
+path false true growing = StartsOver
+path false false true = Growing
+path false false false = Moving
 
 abbrev pub fast_path : ℕ → BufferPool → ℕ → FastPath
 fast_path w r len = path (settled w r len) (is_starting_over r len) (growing w r len)

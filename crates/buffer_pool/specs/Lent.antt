@@ -1,116 +1,64 @@
--- What the calls on a record's numbers give (src/lent.rt), beside what the direct call leaves of the record (Calls.antt): every number
--- that they give is one of the outcome's. No statement cites this: it is what the calls on a record by value and the C interface share.
-use Rattle.std.specs.Prelude.{◌≡◌, List, [], Bool, true, false, ℕ, ◌+◌, ◌-◌, ◌<◌, eqb, get_or, set}
+-- What the calls on a record's numbers give (src/lent.rt), and the record and answer that they leave of a record: what the calls on a
+-- record by value and the C interface share. No statement cites this.
+use Rattle.std.specs.Prelude.{Bool, true, false, Result, Ok, Err, ℕ, ◌+◌, ◌-◌}
 use Rattle.laws.specs.Tests.{pick}
-use Rattle.buffer_pool.specs.declared.buffer_pool.BufferPool.{BufferPool}
-use Rattle.buffer_pool.specs.declared.buffer_pool.Answer.{Answer}
-use Rattle.buffer_pool.specs.declared.buffer_pool.View.{View}
-use Rattle.buffer_pool.specs.declared.lent.Entry.{Entry}
-use Rattle.buffer_pool.specs.declared.lent.Reserving.{Reserving}
-use Rattle.buffer_pool.specs.declared.lent.Resizing.{Resizing}
-use Rattle.buffer_pool.specs.declared.lent.Taking.{Taking}
-use Rattle.buffer_pool.specs.declared.lent.Releasing.{Releasing}
 use Rattle.laws.specs.Live.{claimed}
-use Rattle.buffer_pool.specs.declared.slice.Handle.{Handle}
+use Rattle.buffer_pool.specs.declared.buffer_pool.BufferPool.{BufferPool}
 use Rattle.buffer_pool.specs.declared.buffer_pool.Memory.TheVariants.{Pool, Overflow}
 use Rattle.buffer_pool.specs.declared.buffer_pool.PoolMode.{PoolMode}
 use Rattle.buffer_pool.specs.declared.buffer_pool.PoolMode.TheVariants.{Back, Front, Alloc}
-use Rattle.buffer_pool.specs.declared.buffer_pool.Answer.TheVariants.{Done, Reserved, Framed, Taken, Copied, Refused}
+use Rattle.buffer_pool.specs.declared.buffer_pool.Answer.TheVariants as answers
+use Rattle.buffer_pool.specs.declared.buffer_pool.Answer.TheVariants.{Done, Reserved, Framed}
+use Rattle.buffer_pool.specs.declared.buffer_pool.Called.{Called}
+use Rattle.buffer_pool.specs.declared.lent.Reserving.{Reserving}
+use Rattle.buffer_pool.specs.declared.lent.Resizing.{Resizing}
+use Rattle.buffer_pool.specs.declared.lent.Taking.{Taking}
+use Rattle.buffer_pool.specs.declared.lent.Taking.TheVariants.{Copied, Pooled}
+use Rattle.buffer_pool.specs.declared.refusals.Refusal.{Refusal}
+use Rattle.buffer_pool.specs.declared.refusals.Refusal.TheVariants.{DestinationTooShort, NoSerials}
 use Rattle.buffer_pool.specs.declared.numbers.Numbers.{Numbers}
-use Rattle.buffer_pool.specs.Record.{most_slots, caller_count, new_record, front, framed, marked, with_live, without_entries}
-use Rattle.buffer_pool.specs.Numbers.{numbers_of, bare, with_numbers}
-use Rattle.buffer_pool.specs.Moves.{Memories}
-use Rattle.buffer_pool.specs.Values.{no_handle, values}
-use Rattle.buffer_pool.specs.Steps.{at, reservation}
-use Rattle.buffer_pool.specs.Calls.{Outcome, shown, hidden}
-
--- an answer's number and place
-abbrev pub view_as : Answer → View
-view_as a = record { number = (values a).number; place = (values a).place }
+use Rattle.buffer_pool.specs.Record.{front, framed, with_live, without_entries}
+use Rattle.buffer_pool.specs.Numbers.{numbers_of, bare, with_numbers, entries_of, with_entries, entered}
+use Rattle.buffer_pool.specs.Steps.{called, refused, at, reservation}
 
 -- the record that a reserve leaves of p: with its numbers, and where it clears them with all starts and lengths 0
 abbrev pub reserved_on : BufferPool → Reserving → BufferPool
 reserved_on p r = pick r.clears (without_entries (with_numbers p r.numbers)) (with_numbers p r.numbers)
 
-pub record Reserves (p : BufferPool) (m : Memories) (o : Outcome) (r : Reserving) : Type 0 where
-  pub view_is : r.view ≡ view_as o.call.answer
-  pub changes_is : r.changes ≡ (values o.call.answer).changes
-  pub record_is : reserved_on p r ≡ o.call.pool
-  pub memory_is : m ≡ o.memory
-
--- the record that a commit or a truncate leaves of p
+-- the record that a commit or a truncate leaves of p: "The reservation is spent"
 abbrev pub resized_on : BufferPool → Resizing → BufferPool
-resized_on p r = framed p p.mode p.raw_offset r.raw_len p.kept r.cursor r.reserved
+resized_on p r = framed p p.mode p.raw_offset r.raw_len p.kept r.cursor 0
 
-pub record Resizes (p : BufferPool) (o : Outcome) (r : Resizing) : Type 0 where
-  pub view_is : r.view ≡ view_as o.call.answer
-  pub record_is : resized_on p r ≡ o.call.pool
+-- ---- Record and answer, of what the calls on numbers give
 
--- r with this entry of a slot, and this count of a caller's serials
-abbrev pub entered : BufferPool → Entry → BufferPool
-entered r e =
-    marked r r.live (set r.starts e.slot e.start) (set r.lengths e.slot e.length)
-    (set r.serials e.slot e.serial) (set r.callers e.slot e.owner) (set r.given e.caller e.given)
+abbrev pub reserve_called : BufferPool → Result Reserving Refusal → Called
+reserve_called p (Ok r) = called (reserved_on p r) (Ok (Reserved r.place r.changes))
+reserve_called p (Err why) = refused p why
 
--- the record that a take leaves of p
-abbrev pub taken_on : BufferPool → Taking → BufferPool
-taken_on p r = entered (with_numbers p r.numbers) r.entry
+abbrev pub resize_called : BufferPool → Result Resizing Refusal → Called
+resize_called p (Ok r) = called (resized_on p r) (Ok (Framed r.place))
+resize_called p (Err why) = refused p why
 
-pub record Takes (p : BufferPool) (m : Memories) (destination : List ℕ) (o : Outcome) (r : Taking) : Type 0 where
-  pub number_is : r.number ≡ (values o.call.answer).number
-  pub copied_is : r.copied ≡ (values o.call.answer).length
-  pub handle_is : r.handle ≡ (values o.call.answer).handle
-  pub record_is : taken_on p r ≡ o.call.pool
-  pub memory_is : m ≡ o.memory
-  pub destination_is : destination ≡ o.destination
-  pub slot_within : r.entry.slot < most_slots
-  pub caller_within : r.entry.caller < caller_count
+abbrev pub take_called : BufferPool → Result Taking Refusal → Called
+take_called p (Ok (Copied n q)) = called (with_numbers p q) (Ok (answers.Copied n))
+take_called p (Ok (Pooled h q)) = called (with_entries q (entered (entries_of p) h)) (Ok (answers.Taken h))
+take_called p (Err why) = refused p why
 
--- a release leaves p with these live slots
-pub record Releases (p : BufferPool) (o : Outcome) (r : Releasing) : Type 0 where
-  pub number_is : r.number ≡ (values o.call.answer).number
-  pub record_is : with_live p r.live ≡ o.call.pool
+abbrev pub release_called : BufferPool → Result ℕ Refusal → Called
+release_called p (Ok live) = called (with_live p live) (Ok Done)
+release_called p (Err why) = refused p why
 
 -- ---- What the parts of these calls give
 
--- a refused reserve, and one that leaves these numbers
-abbrev pub unreserved : Numbers → ℕ → Reserving
-unreserved n number = record { view = hidden number; changes = 0; clears = false; numbers = n }
-
+-- a reserve that leaves these numbers
 abbrev pub reserved : Numbers → ℕ → Bool → Reserving
-reserved n changes clears = record { view = shown (reservation (bare n)); changes = changes; clears = clears; numbers = n }
+reserved n changes clears = record { place = reservation (bare n); changes = changes; clears = clears; numbers = n }
 
--- a refused commit or truncate, and a frame of another length
-abbrev pub unresized : Numbers → ℕ → Resizing
-unresized n number = record { view = hidden number; raw_len = n.raw_len; cursor = n.cursor; reserved = n.reserved }
-
-abbrev pub resized_in_pool : Numbers → ℕ → Resizing
-resized_in_pool n len = record { view = shown (at Pool n.raw_offset len); raw_len = len; cursor = n.cursor; reserved = 0 }
-
-abbrev pub resized_in_overflow : Numbers → ℕ → Resizing
-resized_in_overflow n len = record { view = shown (at Overflow 0 len); raw_len = n.raw_len; cursor = len; reserved = 0 }
-
-unfoldable pub resized_in : PoolMode → Numbers → ℕ → Resizing
-resized_in Back n len = resized_in_pool n len
-resized_in (Front f) n len = resized_in_pool n len
-resized_in Alloc n len = resized_in_overflow n len
-
--- the first slot's entry and the first caller's count, as they stand
-abbrev pub standing : List ℕ → List ℕ → List ℕ → List ℕ → List ℕ → Entry
-standing starts lengths serials callers given =
-    record {
-      slot = 0;
-      start = get_or starts 0 0;
-      length = get_or lengths 0 0;
-      serial = get_or serials 0 0;
-      owner = get_or callers 0 0;
-      caller = 0;
-      given = get_or given 0 0;
-    }
-
--- a take that takes no slot
-abbrev pub no_slot : Numbers → Entry → ℕ → ℕ → Taking
-no_slot n e number copied = record { number = number; copied = copied; handle = no_handle; entry = e; numbers = n }
+-- a frame of another length
+abbrev pub resized_in : PoolMode → Numbers → ℕ → Resizing
+resized_in Back n len = record { place = at Pool n.raw_offset len; raw_len = len; cursor = n.cursor }
+resized_in (Front f) n len = record { place = at Pool n.raw_offset len; raw_len = len; cursor = n.cursor }
+resized_in Alloc n len = record { place = at Overflow 0 len; raw_len = n.raw_len; cursor = len }
 
 -- mode and back after a take of the next slot
 abbrev pub taken_mode : PoolMode → Numbers → PoolMode
@@ -143,48 +91,21 @@ handed_out mode len n =
     }
 
 -- a take of a frame of the pool: are all serials given to the caller?
-unfoldable pub pooled : Bool → Numbers → Entry → ℕ → ℕ → Taking
-pooled true n e caller last = no_slot n e 8 0
-pooled false n e caller last =
-    record {
-      number = 0;
-      copied = 0;
-      handle =
-          record { slot = n.used + 1; start = n.raw_offset; length = n.raw_len; serial = last + 1; caller = caller };
-      entry =
-          record {
-            slot = n.used;
-            start = n.raw_offset;
-            length = n.raw_len;
-            serial = last + 1;
-            owner = caller;
-            caller = caller;
-            given = last + 1;
-          };
-      numbers = handed_out (taken_mode n.mode n) (taken_len n.mode n) n;
-    }
+unfoldable pub pooled : Bool → Numbers → ℕ → ℕ → Result Taking Refusal
+pooled true n caller last = Err NoSerials
+pooled false n caller last =
+    Ok (
+    Pooled (record { slot = n.used + 1; start = n.raw_offset; length = n.raw_len; serial = last + 1; caller = caller })
+    (handed_out (taken_mode n.mode n) (taken_len n.mode n) n)
+    )
 
 -- a take of a frame of the overflow: is it longer than the destination?
-unfoldable pub copied_out : Bool → Numbers → Entry → Taking
-copied_out true n e = no_slot n e 6 0
-copied_out false n e =
-    no_slot (numbers_of (framed (bare n) Alloc n.raw_offset n.raw_len (n.kept - n.cursor) 0 0)) e 0 n.cursor
+unfoldable pub copied_out : Bool → Numbers → Result Taking Refusal
+copied_out true n = Err DestinationTooShort
+copied_out false n = Ok (Copied n.cursor (numbers_of (framed (bare n) Alloc n.raw_offset n.raw_len (n.kept - n.cursor) 0 0)))
 
--- a record with w slots, these live ones and these arrays, where nothing else is read
-abbrev pub handled : ℕ → ℕ → List ℕ → List ℕ → List ℕ → List ℕ → BufferPool
-handled w live starts lengths serials callers =
-    marked (new_record w 0 0) live starts lengths serials callers []
-
--- ---- The answers of the calls on a record by value
-
-unfoldable pub reserved_answer : View → ℕ → Answer
-reserved_answer v changes = pick (eqb v.number 0) (Reserved v.place changes) (Refused v.number)
-
-unfoldable pub framed_answer : View → Answer
-framed_answer v = pick (eqb v.number 0) (Framed v.place) (Refused v.number)
-
-unfoldable pub taken_answer : ℕ → ℕ → Handle → Answer
-taken_answer number copied h = pick (eqb number 0) (pick (eqb h.slot 0) (Copied copied) (Taken h)) (Refused number)
-
-unfoldable pub released_answer : ℕ → Answer
-released_answer number = pick (eqb number 0) Done (Refused number)
+-- how many bytes a take copies
+abbrev pub copied_by : Result Taking Refusal → ℕ
+copied_by (Ok (Copied n q)) = n
+copied_by (Ok (Pooled h q)) = 0
+copied_by (Err why) = 0

@@ -1,7 +1,7 @@
 -- The soundness test as the code makes it (src/sound.rt), in three parts: of a record's numbers, of a front, and of the slots with what
 -- is left. The starts and lengths are lent beside the numbers. `sound_parts` (proofs/SoundParts.antt) shows that the three together are
 -- the test of Soundness.antt.
-use Rattle.std.specs.Prelude.{◌≡◌, Bool, true, false, ◌&&◌, ◌||◌, List, ℕ, zero, suc, ◌+◌, ◌-◌, ◌*◌, ◌%◌, ◌^◌, ◌≤◌, ◌<◌, leb, ltb, eqb, get_or}
+use Rattle.std.specs.Prelude.{◌≡◌, Bool, true, false, ◌&&◌, ◌||◌, List, ℕ, zero, suc, ◌+◌, ◌-◌, ◌*◌, ◌%◌, ◌^◌, ◌≤◌, ◌<◌, leb, ltb, eqb, get_or, Option, Some, None}
 use Rattle.laws.specs.Tests.{pick}
 use Rattle.laws.specs.Live.{live_at, last_live}
 use Rattle.buffer_pool.specs.declared.buffer_pool.PoolFront.{PoolFront}
@@ -35,10 +35,10 @@ pub record Passed (w : ℕ) (starts lengths : List ℕ) (live first from i end b
   pub rest_decides : (to : ℕ) → ordered w starts lengths live (w - first) first from to ≡ ordered w starts lengths live (w - i) i end to
 
 -- a run of live slots from index first on: one is not in order, or all are and the next slot, if there is one, is free
-pub record Runs (w : ℕ) (starts lengths : List ℕ) (live first from : ℕ) (r : RunEnd) : Type 0 where
-  pub fails : r.sound ≡ false → (to : ℕ) → ordered w starts lengths live (w - first) first from to ≡ false
-  pub passes : r.sound ≡ true → Passed w starts lengths live first from r.next r.end r.bits
-  pub ends : r.sound ≡ true → r.bits < 2147483648
+pub record Runs (w : ℕ) (starts lengths : List ℕ) (live first from : ℕ) (run : Option RunEnd) : Type 0 where
+  pub fails : run ≡ None → (to : ℕ) → ordered w starts lengths live (w - first) first from to ≡ false
+  pub passes : (r : RunEnd) → run ≡ Some r → Passed w starts lengths live first from r.next r.end r.bits
+  pub ends : (r : RunEnd) → run ≡ Some r → r.bits < 2147483648
 
 -- ---- The numbers, but for a front's
 

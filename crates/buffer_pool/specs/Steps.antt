@@ -1,6 +1,6 @@
 -- The record steps: what each call does to the record and what it answers, from numbers alone. Calls.antt adds the soundness
 -- test, the memories' lengths and the bytes.
-use Rattle.std.specs.Prelude.{Bool, true, false, ◌&&◌, List, [], ◌∷◌, ℕ, zero, suc, ◌+◌, ◌-◌, min, leb, ltb, eqb, get_or, set}
+use Rattle.std.specs.Prelude.{Bool, true, false, ◌&&◌, Ok, Err, List, [], ◌∷◌, ℕ, zero, suc, ◌+◌, ◌-◌, min, leb, ltb, eqb, get_or, set}
 use Rattle.laws.specs.Tests.{pick}
 use Rattle.laws.specs.Live.{live_at, claimed, released}
 use Rattle.buffer_pool.specs.declared.slice.Handle.{Handle}
@@ -11,21 +11,23 @@ use Rattle.buffer_pool.specs.declared.buffer_pool.PoolMode.TheVariants.{Back, Fr
 use Rattle.buffer_pool.specs.declared.buffer_pool.Memory.{Memory}
 use Rattle.buffer_pool.specs.declared.buffer_pool.Memory.TheVariants.{Pool, Overflow}
 use Rattle.buffer_pool.specs.declared.buffer_pool.Place.{Place}
-use Rattle.buffer_pool.specs.declared.buffer_pool.Answer.{Answer}
-use Rattle.buffer_pool.specs.declared.buffer_pool.Answer.TheVariants.{Done, Reserved, Framed, Taken, Copied, Refused}
+use Rattle.buffer_pool.specs.declared.buffer_pool.Answer.TheVariants.{Done, Reserved, Framed, Taken, Copied}
 use Rattle.buffer_pool.specs.declared.buffer_pool.Called.{Called}
+use Rattle.buffer_pool.specs.declared.refusals.Refusal.{Refusal}
+use Rattle.buffer_pool.specs.declared.refusals.Refusal.TheVariants.{OverflowTooShort, CommitTooLong, DestinationTooShort, NotLive, NoSerials, UnknownCaller}
 use Rattle.buffer_pool.specs.Record.{caller_count, start_at, placed, framed, marked, with_live}
+use Rattle.buffer_pool.specs.Values.{Response}
 use Rattle.buffer_pool.specs.Moves.{Move, Down}
 use Rattle.buffer_pool.specs.Placing.{Decision, place, is_too_long}
 
 -- ---- Record and answer
 
-abbrev pub called : BufferPool → Answer → Called
+abbrev pub called : BufferPool → Response → Called
 called r answer = record { pool = r; answer = answer }
 
 -- a refused call leaves the record
-abbrev pub refused : BufferPool → ℕ → Called
-refused r number = called r (Refused number)
+abbrev pub refused : BufferPool → Refusal → Called
+refused r why = called r (Err why)
 
 -- ---- Frame and reservation
 
@@ -50,11 +52,11 @@ reservation r = at (frame r).memory ((frame r).start + (frame r).length) r.reser
 
 -- the answer of a reserve that is not refused: the reservation, and how often the mode changed
 abbrev pub reserved : BufferPool → ℕ → Called
-reserved r changes = called r (Reserved (reservation r) changes)
+reserved r changes = called r (Ok (Reserved (reservation r) changes))
 
 -- from its decision: refused with 4, or the reservation and the count of mode changes
 unfoldable pub reserve_on : Bool → BufferPool → Decision → Called
-reserve_on true r d = refused r 4
+reserve_on true r d = refused r OverflowTooShort
 reserve_on false r d = reserved d.next d.changes
 
 unfoldable pub reserve_step : ℕ → BufferPool → ℕ → Called
@@ -69,11 +71,11 @@ resized (Front f) r len = framed r (Front f) r.raw_offset len r.kept r.cursor 0
 resized Alloc r len = framed r Alloc r.raw_offset r.raw_len r.kept len 0
 
 abbrev pub reframed : BufferPool → Called
-reframed r = called r (Framed (frame r))
+reframed r = called r (Ok (Framed (frame r)))
 
 -- cause 5: "`len` exceeds the length of the reservation"
 unfoldable pub commit_step : BufferPool → ℕ → Called
-commit_step r n = pick (ltb r.reserved n) (refused r 5) (reframed (resized r.mode r ((frame r).length + n)))
+commit_step r n = pick (ltb r.reserved n) (refused r CommitTooLong) (reframed (resized r.mode r ((frame r).length + n)))
 
 unfoldable pub truncate_step : BufferPool → ℕ → Called
 truncate_step r n = reframed (resized r.mode r (min (frame r).length n))
@@ -110,19 +112,19 @@ longer f len = record { back_start = f.back_start; byte_capacity = f.byte_capaci
 
 -- a non-empty frame of the pool: are all serials given to the caller?
 abbrev pub pooled : Bool → ℕ → ℕ → BufferPool → PoolMode → ℕ → Called
-pooled true w caller r mode n = refused r 8
-pooled false w caller r mode n = called (handed_out w caller r mode n) (Taken (next_handle r caller))
+pooled true w caller r mode n = refused r NoSerials
+pooled false w caller r mode n = called (handed_out w caller r mode n) (Ok (Taken (next_handle r caller)))
 
 -- a non-empty frame of the overflow: is it longer than the destination?
 abbrev pub copied_out_on : Bool → BufferPool → Called
-copied_out_on true r = refused r 6
-copied_out_on false r = called (framed r Alloc r.raw_offset r.raw_len (r.kept - r.cursor) 0 0) (Copied r.cursor)
+copied_out_on true r = refused r DestinationTooShort
+copied_out_on false r = called (framed r Alloc r.raw_offset r.raw_len (r.kept - r.cursor) 0 0) (Ok (Copied r.cursor))
 
 -- SPECIFICATION 7.5 to 7.7: is the number no caller (12)? is the frame empty? longer than the destination? are all
 -- serials given to the caller? Of an empty frame: "No slot, no serial, no copy"
 unfoldable pub take_on : Bool → Bool → Bool → Bool → PoolMode → ℕ → ℕ → BufferPool → Called
-take_on true empty long spent mode w caller r = refused r 12
-take_on false true long spent mode w caller r = called (resized mode r (frame_of mode r).length) (Copied 0)
+take_on true empty long spent mode w caller r = refused r UnknownCaller
+take_on false true long spent mode w caller r = called (resized mode r (frame_of mode r).length) (Ok (Copied 0))
 take_on false false long spent Back w caller r = pooled spent w caller r Back (suc r.used - r.back_start)
 take_on false false long spent (Front f) w caller r = pooled spent w caller r (Front (longer f (suc r.used))) r.back_len
 take_on false false long spent Alloc w caller r = copied_out_on long r
@@ -155,4 +157,4 @@ freed w r p = with_live r (released w r.live p)
 
 unfoldable pub release_step : ℕ → BufferPool → Handle → Called
 release_step w r h =
-    pick (names w r h) (called (freed w r h.slot) Done) (refused r 7)
+    pick (names w r h) (called (freed w r h.slot) (Ok Done)) (refused r NotLive)

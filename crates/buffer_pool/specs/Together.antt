@@ -10,11 +10,10 @@ use Rattle.buffer_pool.specs.declared.buffer_pool.PoolMode.TheVariants.{Back, Fr
 use Rattle.buffer_pool.specs.declared.buffer_pool.Memory.{Memory}
 use Rattle.buffer_pool.specs.declared.buffer_pool.Memory.TheVariants.{Pool, Overflow}
 use Rattle.buffer_pool.specs.declared.buffer_pool.Place.{Place}
-use Rattle.buffer_pool.specs.Values.{Values, values, refusal}
+use Rattle.buffer_pool.specs.Values.{Values, values, refusal, View, view_place}
 use Rattle.buffer_pool.specs.Moves.{Memories}
 use Rattle.buffer_pool.specs.Placing.{most_changes}
 use Rattle.buffer_pool.specs.Steps.{at}
-use Rattle.buffer_pool.specs.declared.buffer_pool.View.{View}
 use Rattle.buffer_pool.specs.Calls.{Outcome, new, bytes_at}
 use Rattle.buffer_pool.specs.Rust.{Run, done, panic, then, with, RustPool, Slice, Pooled, Heap, rust_reserve, rust_commit, rust_truncate, rust_take, rust_release, rust_frame_bytes, rust_new}
 use Rattle.buffer_pool.specs.AsRust.{slice_of, rust_written}
@@ -75,7 +74,7 @@ abbrev pub view : ℕ → Ours → Part → View
 view w s p = view_of w s.pool s.memory p
 
 abbrev pub seen_in : ℕ → Ours → Part → Seen
-seen_in w s p = seen (view w s p).place (bytes_at s.memory (view w s p).place)
+seen_in w s p = seen (view_place (view w s p)) (bytes_at s.memory (view_place (view w s p)))
 
 abbrev pub outcome_in : ℕ → Ours → Call → Outcome
 outcome_in w s c = call w s.pool s.memory c

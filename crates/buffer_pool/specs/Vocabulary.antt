@@ -1,16 +1,14 @@
 -- The words of demands 1, 2 and 3: the calls on a pool and the writes through its views, what each answers and leaves, and which
 -- answers are results. The calls themselves are those of Calls.antt, by which the contracts of the public functions are stated. w is
 -- the slot count.
-use Rattle.std.specs.Prelude.{◌≡◌, List, [], ◌⊎◌, ℕ, zero, suc, ◌<◌}
+use Rattle.std.specs.Prelude.{◌≡◌, Ok, Err, List, [], ◌⊎◌, ℕ, ◌<◌}
 use Rattle.buffer_pool.specs.declared.slice.Handle.{Handle}
 use Rattle.buffer_pool.specs.declared.buffer_pool.BufferPool.{BufferPool}
 use Rattle.buffer_pool.specs.declared.buffer_pool.Memory.TheVariants.{Pool}
 use Rattle.buffer_pool.specs.declared.buffer_pool.Place.{Place}
-use Rattle.buffer_pool.specs.declared.buffer_pool.View.{View}
-use Rattle.buffer_pool.specs.declared.buffer_pool.Answer.{Answer}
-use Rattle.buffer_pool.specs.declared.buffer_pool.Answer.TheVariants.{Done, Framed, Refused}
+use Rattle.buffer_pool.specs.declared.buffer_pool.Answer.TheVariants.{Done, Framed}
 use Rattle.buffer_pool.specs.declared.buffer_pool.Called.{Called}
-use Rattle.buffer_pool.specs.Values.{no_place, no_handle, valued, values, refusal}
+use Rattle.buffer_pool.specs.Values.{Response, View, view_place, no_place, no_handle, valued, values, refusal}
 use Rattle.buffer_pool.specs.Moves.{Memories}
 use Rattle.buffer_pool.specs.Steps.{called, at, frame, reservation}
 use Rattle.buffer_pool.specs.Calls.{Outcome, outcome, reserve, commit, truncate, take, release, frame_view, reservation_view, slice_view, written}
@@ -49,10 +47,10 @@ view_of w r m TheFrame = frame_view w r m
 view_of w r m TheReservation = reservation_view w r m
 view_of w r m (TheSlice h) = slice_view w r m h
 
--- a view's answer, by its number and its place: `Framed` is the answer that is a place
-unfoldable pub view_answer : ℕ → Place → Answer
-view_answer zero place = Framed place
-view_answer (suc n) place = Refused (suc n)
+-- a view's answer: `Framed` is the answer that is a place
+unfoldable pub view_answer : View → Response
+view_answer (Ok place) = Ok (Framed place)
+view_answer (Err why) = Err why
 
 -- the call on a record and two lent memories; a view leaves everything
 unfoldable pub call : ℕ → BufferPool → Memories → Call → Outcome
@@ -61,7 +59,7 @@ call w r m (Commit n) = commit w r m n
 call w r m (Truncate n) = truncate w r m n
 call w r m (Take caller destination) = take w r m caller destination
 call w r m (Release h) = release w r m h
-call w r m (Look part) = outcome (called r (view_answer (view_of w r m part).number (view_of w r m part).place)) m []
+call w r m (Look part) = outcome (called r (view_answer (view_of w r m part))) m []
 
 -- the number of its refusal, or 0
 unfoldable pub number_of : ℕ → BufferPool → Memories → Call → ℕ
@@ -69,14 +67,14 @@ number_of w r m c = refusal (call w r m c).call.answer
 
 -- ---- What a write answers and leaves (SPECIFICATION 7.10)
 
-abbrev pub done_unless : ℕ → Answer
-done_unless zero = Done
-done_unless (suc n) = Refused (suc n)
+abbrev pub done_unless : View → Response
+done_unless (Ok place) = Ok Done
+done_unless (Err why) = Err why
 
 -- this byte at this index of what a view shows: "refused as its view is"; it "changes no record"
 abbrev pub write : ℕ → BufferPool → Memories → Part → ℕ → ℕ → Outcome
 write w r m part i byte =
-    outcome (called r (done_unless (view_of w r m part).number)) (written m (view_of w r m part).place i byte) []
+    outcome (called r (done_unless (view_of w r m part))) (written m (view_place (view_of w r m part)) i byte) []
 
 -- ---- Results and refusals, by what an answer says
 

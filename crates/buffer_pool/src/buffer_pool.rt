@@ -1,8 +1,10 @@
 // The pool's record, its modes and what its calls answer (buffer_pool/mod.rs of the Rust).
 ghost use Rattle.std.specs.Prelude.{◌≡◌};
-ghost use Rattle.buffer_pool.specs.Record.{new_record, without_entries};
+ghost use Rattle.buffer_pool.specs.Record.{new_record};
+ghost use Rattle.buffer_pool.specs.Numbers.{entered, cleared};
 ghost use Rattle.buffer_pool.specs.Values.{no_place, no_handle, values};
 
+use crate::refusals::Refusal;
 use crate::slice::Handle;
 
 // The front part of the pool. Its slots are those up to `back_start`, its bytes those below `byte_capacity`, and `len` of
@@ -22,8 +24,9 @@ pub enum PoolMode {
     Alloc,
 }
 
-// The pool's record. The two memories that it speaks of are lent to each call. The arrays stand behind whole words: a copy of the
-// record then moves them at even places (docs/BENCHMARKS.md).
+// The pool's record. The two memories that it speaks of are lent to each call: two parameters and no struct, since C lends them apart and
+// most calls write one and read the other. The arrays stand behind whole words: a copy of the record then moves them at even places
+// (docs/BENCHMARKS.md). They are not one field `Entries`: with it a call by value takes 65 to 90 ns, not 46.
 #[derive(Clone, Copy)]
 pub struct BufferPool {
     // the lengths of the pool memory and of the overflow
@@ -61,6 +64,18 @@ pub struct BufferPool {
     pub reserved: u64,
 }
 
+// The arrays of a record, as they are lent to a call: for each slot the slice that was last taken there and its caller, for each caller
+// how many serials it was given. Arrays, and not an array of entries: the record that C holds has them so (c/buffer_pool.h).
+#[repr(C)]
+#[derive(Clone, Copy)]
+pub struct Entries {
+    pub starts: [u32; BufferPool::MOST_SLOTS],
+    pub lengths: [u32; BufferPool::MOST_SLOTS],
+    pub serials: [u32; BufferPool::MOST_SLOTS],
+    pub given: [u32; BufferPool::CALLERS],
+    pub callers: [u8; BufferPool::MOST_SLOTS],
+}
+
 // One of the two lent memories.
 #[derive(Clone, Copy)]
 pub enum Memory {
@@ -74,13 +89,6 @@ pub struct Place {
     pub memory: Memory,
     pub start: u64,
     pub length: u64,
-}
-
-// What a view shows: the number of its refusal, or 0, and its place. A refused view is the empty place at the pool memory's start.
-#[derive(Clone, Copy)]
-pub struct View {
-    pub number: u8,
-    pub place: Place,
 }
 
 // What a call answers.
@@ -100,81 +108,93 @@ pub enum Answer {
 
     // take: this many bytes went to the destination, 0 for an empty frame
     Copied(u64),
-
-    // any call: the number of its refusal (SPECIFICATION 3.3), and nothing was changed
-    Refused(u8),
 }
 
-// What an answer says. Of what it does not tell, a number is 0, the place empty and the handle that of no slot.
-impl Answer {
+// A call's record, and its answer or why it is refused: then nothing was changed.
+#[derive(Clone, Copy)]
+pub struct Called {
+    pub pool: BufferPool,
+    pub answer: Result<Answer, Refusal>,
+}
+
+// What a call answers, value by value. Of what the answer does not tell, a number is 0, the place empty and the handle that of no slot.
+impl Called {
     // The number of the refusal, or 0.
-    pub fn refusal(self) -> u8
-        ensures { result ≡ (values self).number }
+    pub fn refusal(&self) -> u8
+        ensures { result ≡ (values self.now.answer).number }
     {
-        match self {
-            Answer::Done => 0,
-            Answer::Reserved(_, _) => 0,
-            Answer::Framed(_) => 0,
-            Answer::Taken(_) => 0,
-            Answer::Copied(_) => 0,
-            Answer::Refused(number) => number,
+        match self.answer {
+            Ok(_) => 0,
+            Err(why) => why.number(),
         }
     }
 
     // The reservation, or the frame.
-    pub fn place(self) -> Place
-        ensures { result ≡ (values self).place }
+    pub fn place(&self) -> Place
+        ensures { result ≡ (values self.now.answer).place }
     {
-        match self {
-            Answer::Done => no_place(),
-            Answer::Reserved(place, _) => place,
-            Answer::Framed(place) => place,
-            Answer::Taken(_) => no_place(),
-            Answer::Copied(_) => no_place(),
-            Answer::Refused(_) => no_place(),
+        match self.answer {
+            Ok(Answer::Reserved(place, _)) => place,
+            Ok(Answer::Framed(place)) => place,
+            _ => no_place(),
         }
     }
 
     // The handle of a slice.
-    pub fn handle(self) -> Handle
-        ensures { result ≡ (values self).handle }
+    pub fn handle(&self) -> Handle
+        ensures { result ≡ (values self.now.answer).handle }
     {
-        match self {
-            Answer::Done => no_handle(),
-            Answer::Reserved(_, _) => no_handle(),
-            Answer::Framed(_) => no_handle(),
-            Answer::Taken(handle) => handle,
-            Answer::Copied(_) => no_handle(),
-            Answer::Refused(_) => no_handle(),
+        match self.answer {
+            Ok(Answer::Taken(handle)) => handle,
+            _ => no_handle(),
         }
     }
 
     // How many bytes went to the destination.
-    pub fn copied(self) -> u64
-        ensures { result ≡ (values self).length }
+    pub fn copied(&self) -> u64
+        ensures { result ≡ (values self.now.answer).length }
     {
-        match self {
-            Answer::Done => 0,
-            Answer::Reserved(_, _) => 0,
-            Answer::Framed(_) => 0,
-            Answer::Taken(_) => 0,
-            Answer::Copied(length) => length,
-            Answer::Refused(_) => 0,
+        match self.answer {
+            Ok(Answer::Copied(length)) => length,
+            _ => 0,
         }
     }
 
     // How often the mode changed.
-    pub fn changes(self) -> u32
-        ensures { result ≡ (values self).changes }
+    pub fn changes(&self) -> u32
+        ensures { result ≡ (values self.now.answer).changes }
     {
-        match self {
-            Answer::Done => 0,
-            Answer::Reserved(_, changes) => changes,
-            Answer::Framed(_) => 0,
-            Answer::Taken(_) => 0,
-            Answer::Copied(_) => 0,
-            Answer::Refused(_) => 0,
+        match self.answer {
+            Ok(Answer::Reserved(_, changes)) => changes,
+            _ => 0,
         }
+    }
+}
+
+impl Entries {
+    // The entry of a slice that is taken, and its caller's count of serials. A handle without a slot or a caller of the arrays leaves
+    // everything.
+    pub fn enter(&mut self, h: Handle)
+        ensures { self.new ≡ entered self.old h }
+    {
+        let slot = h.slot as usize;
+        let caller = h.caller as usize;
+        if slot < 1 || BufferPool::MOST_SLOTS < slot || BufferPool::CALLERS <= caller {
+            return;
+        }
+        self.starts[slot - 1] = h.start;
+        self.lengths[slot - 1] = h.length;
+        self.serials[slot - 1] = h.serial;
+        self.callers[slot - 1] = h.caller;
+        self.given[caller] = h.serial;
+    }
+
+    // All starts and lengths become 0, those above the slot count too.
+    pub fn clear(&mut self)
+        ensures { self.new ≡ cleared self.old }
+    {
+        self.starts = [0; BufferPool::MOST_SLOTS];
+        self.lengths = [0; BufferPool::MOST_SLOTS];
     }
 }
 
@@ -202,13 +222,6 @@ pub(crate) fn no_handle() -> Handle
     }
 }
 
-// A call's record and answer.
-#[derive(Clone, Copy)]
-pub struct Called {
-    pub pool: BufferPool,
-    pub answer: Answer,
-}
-
 impl BufferPool {
     // The Rust's count of slots.
     pub const POOL_CAPACITY: usize = 8;
@@ -227,9 +240,9 @@ impl BufferPool {
         ensures { result ≡ new_record slots capacity overflow }
     {
         BufferPool {
-            capacity: capacity,
-            overflow: overflow,
-            slots: slots,
+            capacity,
+            overflow,
+            slots,
             live: 0,
             starts: [0; BufferPool::MOST_SLOTS],
             lengths: [0; BufferPool::MOST_SLOTS],
@@ -246,15 +259,5 @@ impl BufferPool {
             cursor: 0,
             reserved: 0,
         }
-    }
-
-    // The record with all starts and lengths 0, those above the slot count too.
-    pub(crate) fn without_entries(self) -> Self
-        ensures { result ≡ without_entries self }
-    {
-        let mut p = self;
-        p.starts = [0; BufferPool::MOST_SLOTS];
-        p.lengths = [0; BufferPool::MOST_SLOTS];
-        p
     }
 }

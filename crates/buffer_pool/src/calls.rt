@@ -1,94 +1,55 @@
-// The calls (SPECIFICATION 7). Each takes the record by value and both lent memories, refuses by the numbers and in the order of
-// SPECIFICATION 3.3 and 3.4 (1, 2, then its own), and gives the record back with the answer; a refused call changes nothing. What a call
-// decides and moves is that of lent.rt; here its record is put together.
+// The calls (SPECIFICATION 7). Each takes the record by value and both lent memories, refuses in the order of SPECIFICATION 3.3 and 3.4
+// (unsound, wrong length, then its own), and gives the record back with the answer; a refused call changes nothing. What a call decides
+// and moves is that of lent.rt; here its record is put together.
 ghost use Rattle.std.specs.Prelude.{◌≡◌, []};
-ghost use Rattle.buffer_pool.specs.Numbers.{with_numbers};
 ghost use Rattle.buffer_pool.specs.Lent as lent;
 ghost use Rattle.buffer_pool.specs.Moves.{memories};
 ghost use Rattle.buffer_pool.specs.Steps as steps;
 ghost use Rattle.buffer_pool.specs.Calls as spec;
 
-use crate::buffer_pool::{Answer, BufferPool, Called, View};
+use crate::buffer_pool::{Answer, BufferPool, Called};
 use crate::inner_memory::fill_zero;
-use crate::numbers::Numbers;
-use crate::refusals;
+use crate::lent::{Resizing, Taking};
+use crate::refusals::Refusal;
 use crate::slice::Handle;
 use crate::sound::is_count;
 
 // A refused call leaves the record.
-fn refused(p: BufferPool, number: u8) -> Called
-    ensures { result ≡ steps.refused p number }
+fn refused(p: BufferPool, why: Refusal) -> Called
+    ensures { result ≡ steps.refused p why }
 {
     Called {
         pool: p,
-        answer: Answer::Refused(number),
+        answer: Err(why),
     }
 }
 
-// What a reserve answers.
-fn reserved_answer(v: View, changes: u32) -> Answer
-    ensures { result ≡ lent.reserved_answer v changes }
+// What a commit or a truncate leaves and answers.
+fn resized(p: BufferPool, resizing: Result<Resizing, Refusal>) -> Called
+    ensures { result ≡ lent.resize_called p resizing }
 {
-    if v.number != 0 {
-        return Answer::Refused(v.number);
+    match resizing {
+        Ok(r) => {
+            let mut q = p;
+            q.raw_len = r.raw_len;
+            q.cursor = r.cursor;
+            q.reserved = 0;
+            Called {
+                pool: q,
+                answer: Ok(Answer::Framed(r.place)),
+            }
+        }
+        Err(why) => refused(p, why),
     }
-    let place = v.place;
-    Answer::Reserved(place, changes)
-}
-
-// What a commit or a truncate answers.
-fn framed_answer(v: View) -> Answer
-    ensures { result ≡ lent.framed_answer v }
-{
-    if v.number != 0 {
-        return Answer::Refused(v.number);
-    }
-    let place = v.place;
-    Answer::Framed(place)
-}
-
-// What a take answers.
-fn taken_answer(number: u8, copied: u64, h: Handle) -> Answer
-    ensures { result ≡ lent.taken_answer number copied h }
-{
-    if number != 0 {
-        return Answer::Refused(number);
-    }
-    if h.slot == 0 {
-        return Answer::Copied(copied);
-    }
-    Answer::Taken(h)
-}
-
-// What a release answers.
-fn released_answer(number: u8) -> Answer
-    ensures { result ≡ lent.released_answer number }
-{
-    if number != 0 {
-        return Answer::Refused(number);
-    }
-    Answer::Done
-}
-
-// The record with other numbers.
-fn put(p: BufferPool, n: Numbers) -> BufferPool
-    ensures { result ≡ with_numbers p n }
-{
-    let starts = p.starts;
-    let lengths = p.lengths;
-    let serials = p.serials;
-    let callers = p.callers;
-    let given = p.given;
-    n.filled(starts, lengths, serials, callers, given)
 }
 
 // A refused new: the record of a new pool of the Rust's count of slots, whose two lengths are 0.
-fn new_refused(number: u8) -> Called
-    ensures { result ≡ spec.new_refused_by number }
+fn new_refused(why: Refusal) -> Called
+    ensures { result ≡ spec.new_refused_by why }
 {
     refused(
         BufferPool::with_lengths(BufferPool::POOL_CAPACITY, 0, 0),
-        number,
+        why,
     )
 }
 
@@ -100,21 +61,21 @@ impl BufferPool {
         ensures { spec.outcome result (memories pool.new overflow.now) [] ≡ spec.new slots (memories pool.old overflow.now) }
     {
         if !is_count(slots) {
-            return new_refused(refusals::WRONG_SLOT_COUNT);
+            return new_refused(Refusal::WrongSlotCount);
         }
         let n = pool.len();
         let capacity = n as u64;
         let length = overflow.len() as u64;
         if BufferPool::BYTE_LIMIT < capacity {
-            return new_refused(refusals::MEMORY_TOO_LONG);
+            return new_refused(Refusal::MemoryTooLong);
         }
         if BufferPool::BYTE_LIMIT < length {
-            return new_refused(refusals::MEMORY_TOO_LONG);
+            return new_refused(Refusal::MemoryTooLong);
         }
         fill_zero(pool, 0, n);
         Called {
             pool: BufferPool::with_lengths(slots, capacity, length),
-            answer: Answer::Done,
+            answer: Ok(Answer::Done),
         }
     }
 
@@ -123,59 +84,38 @@ impl BufferPool {
     pub fn reserve(self, pool: &mut [u8], overflow: &mut [u8], len: u64) -> Called
         ensures { spec.outcome result (memories pool.new overflow.new) [] ≡ spec.reserve self.slots self (memories pool.old overflow.old) len }
     {
-        let starts = self.starts;
-        let lengths = self.lengths;
-        let n = self.numbers();
-        let c = n.reserve(&starts, &lengths, pool, overflow, len);
-        let q = put(self, c.numbers);
-        let answer = reserved_answer(c.view, c.changes);
-        if c.clears {
-            return Called {
-                pool: q.without_entries(),
-                answer: answer,
-            };
-        }
-        Called {
-            pool: q,
-            answer: answer,
+        let mut entries = self.entries();
+        match self.numbers().reserve(&entries, pool, overflow, len) {
+            Ok(r) => {
+                if r.clears {
+                    entries.clear();
+                }
+                Called {
+                    pool: r.numbers.filled(&entries),
+                    answer: Ok(Answer::Reserved(r.place, r.changes)),
+                }
+            }
+            Err(why) => refused(self, why),
         }
     }
+
+    // Commit and truncate differ in the call of lent.rt that they make; what they do with its answer is `resized`.
 
     // The first `n` bytes of the reservation join the frame: gives the frame's place. Refuses with 1, 2, and with 5 if `n` exceeds
     // the reservation.
     pub fn commit(self, pool: &[u8], overflow: &[u8], n: u64) -> Called
         ensures { spec.outcome result (memories pool.now overflow.now) [] ≡ spec.commit self.slots self (memories pool.now overflow.now) n }
     {
-        let starts = self.starts;
-        let lengths = self.lengths;
-        let numbers = self.numbers();
-        let c = numbers.commit(&starts, &lengths, pool, overflow, n);
-        let mut q = self;
-        q.raw_len = c.raw_len;
-        q.cursor = c.cursor;
-        q.reserved = c.reserved;
-        Called {
-            pool: q,
-            answer: framed_answer(c.view),
-        }
+        let entries = self.entries();
+        resized(self, self.numbers().commit(&entries, pool, overflow, n))
     }
 
     // The frame keeps at most its first `n` bytes: gives the frame's place. Refuses with 1 and 2.
     pub fn truncate(self, pool: &[u8], overflow: &[u8], n: u64) -> Called
         ensures { spec.outcome result (memories pool.now overflow.now) [] ≡ spec.truncate self.slots self (memories pool.now overflow.now) n }
     {
-        let starts = self.starts;
-        let lengths = self.lengths;
-        let numbers = self.numbers();
-        let c = numbers.truncate(&starts, &lengths, pool, overflow, n);
-        let mut q = self;
-        q.raw_len = c.raw_len;
-        q.cursor = c.cursor;
-        q.reserved = c.reserved;
-        Called {
-            pool: q,
-            answer: framed_answer(c.view),
-        }
+        let entries = self.entries();
+        resized(self, self.numbers().truncate(&entries, pool, overflow, n))
     }
 
     // The frame is finished: gives the handle of a slice of the pool, with the caller's next serial, or copies a frame of the
@@ -191,35 +131,23 @@ impl BufferPool {
     ) -> Called
         ensures { spec.outcome result (memories pool.now overflow.new) destination.new ≡ spec.take self.slots self (memories pool.now overflow.old) caller destination.old }
     {
-        let mut starts = self.starts;
-        let mut lengths = self.lengths;
-        let mut serials = self.serials;
-        let mut callers = self.callers;
-        let mut given = self.given;
-        let n = self.numbers();
-        let c = n.take(
-            &starts,
-            &lengths,
-            &serials,
-            &callers,
-            &given,
-            pool,
-            overflow,
-            caller,
-            destination,
-        );
-        let e = c.entry;
-        let k = e.slot;
-        let i = e.caller;
-        starts[k] = e.start;
-        lengths[k] = e.length;
-        serials[k] = e.serial;
-        callers[k] = e.owner;
-        given[i] = e.given;
-        let m = c.numbers;
-        Called {
-            pool: m.filled(starts, lengths, serials, callers, given),
-            answer: taken_answer(c.number, c.copied, c.handle),
+        let mut entries = self.entries();
+        match self
+            .numbers()
+            .take(&entries, pool, overflow, caller, destination)
+        {
+            Ok(Taking::Copied(copied, numbers)) => Called {
+                pool: numbers.filled(&entries),
+                answer: Ok(Answer::Copied(copied)),
+            },
+            Ok(Taking::Pooled(handle, numbers)) => {
+                entries.enter(handle);
+                Called {
+                    pool: numbers.filled(&entries),
+                    answer: Ok(Answer::Taken(handle)),
+                }
+            }
+            Err(why) => refused(self, why),
         }
     }
 
@@ -227,17 +155,17 @@ impl BufferPool {
     pub fn release(self, pool: &[u8], overflow: &[u8], h: Handle) -> Called
         ensures { spec.outcome result (memories pool.now overflow.now) [] ≡ spec.release self.slots self (memories pool.now overflow.now) h }
     {
-        let starts = self.starts;
-        let lengths = self.lengths;
-        let serials = self.serials;
-        let callers = self.callers;
-        let n = self.numbers();
-        let c = n.release(&starts, &lengths, &serials, &callers, pool, overflow, h);
-        let mut q = self;
-        q.live = c.live;
-        Called {
-            pool: q,
-            answer: released_answer(c.number),
+        let entries = self.entries();
+        match self.numbers().release(&entries, pool, overflow, h) {
+            Ok(live) => {
+                let mut q = self;
+                q.live = live;
+                Called {
+                    pool: q,
+                    answer: Ok(Answer::Done),
+                }
+            }
+            Err(why) => refused(self, why),
         }
     }
 }

@@ -1,9 +1,10 @@
-// The numbers of a record, by value. A call decides on them while the record's arrays stay where they are and are lent beside them.
-ghost use Rattle.std.specs.Prelude.{◌≡◌};
+// The numbers of a record, by value, and its arrays, to be lent. A call decides on the numbers while the arrays stay where they are.
+ghost use Rattle.std.specs.Prelude.{◌≡◌, ◌+◌, ◌≤◌};
+ghost use Rattle.buffer_pool.specs.Deciding.{Worded};
 ghost use Rattle.buffer_pool.specs.Record.{placed, framed};
-ghost use Rattle.buffer_pool.specs.Numbers.{Whole, rest_of, numbers_of, filled, bare};
+ghost use Rattle.buffer_pool.specs.Numbers.{Whole, numbers_of, entries_of, with_entries, bare};
 
-use crate::buffer_pool::{BufferPool, PoolMode};
+use crate::buffer_pool::{BufferPool, Entries, PoolMode};
 
 // The fields of `BufferPool`, but for its arrays.
 #[derive(Clone, Copy)]
@@ -23,6 +24,15 @@ pub struct Numbers {
     pub reserved: u64,
 }
 
+// The numbers of a record that passed the soundness test, as far as placing rests on it: the slot count is within the arrays', the live
+// word has no bit beyond it, and the back lies in the slots.
+#[derive(Clone, Copy)]
+pub(crate) struct Tested {
+    pub(crate) n: Numbers,
+    ghost worded: { Worded (bare n) },
+    ghost back_within: { n.back_start + n.back_len ≤ n.slots },
+}
+
 impl Numbers {
     // The numbers with another mode, back, count of used slots and frame start.
     pub(crate) fn placed(
@@ -36,19 +46,12 @@ impl Numbers {
         ensures { result ≡ numbers_of (placed (bare self) mode back_start back_len used raw_offset) }
     {
         Numbers {
-            capacity: self.capacity,
-            overflow: self.overflow,
-            slots: self.slots,
-            live: self.live,
-            back_start: back_start,
-            back_len: back_len,
-            used: used,
-            raw_offset: raw_offset,
-            raw_len: self.raw_len,
-            mode: mode,
-            kept: self.kept,
-            cursor: self.cursor,
-            reserved: self.reserved,
+            mode,
+            back_start,
+            back_len,
+            used,
+            raw_offset,
+            ..self
         }
     }
 
@@ -65,52 +68,44 @@ impl Numbers {
         ensures { result ≡ numbers_of (framed (bare self) mode raw_offset raw_len kept cursor reserved) }
     {
         Numbers {
-            capacity: self.capacity,
-            overflow: self.overflow,
-            slots: self.slots,
-            live: self.live,
-            back_start: self.back_start,
-            back_len: self.back_len,
-            used: self.used,
-            raw_offset: raw_offset,
-            raw_len: raw_len,
-            mode: mode,
-            kept: kept,
-            cursor: cursor,
-            reserved: reserved,
+            mode,
+            raw_offset,
+            raw_len,
+            kept,
+            cursor,
+            reserved,
+            ..self
         }
     }
 }
 
 impl Numbers {
-    // The record of these numbers and arrays.
-    pub(crate) fn filled(
-        self,
-        starts: [u32; BufferPool::MOST_SLOTS],
-        lengths: [u32; BufferPool::MOST_SLOTS],
-        serials: [u32; BufferPool::MOST_SLOTS],
-        callers: [u8; BufferPool::MOST_SLOTS],
-        given: [u32; BufferPool::CALLERS],
-    ) -> BufferPool
-        ensures { result ≡ filled self starts lengths (record { serials = serials; callers = callers; given = given }) }
+    // The record of these numbers and entries.
+    pub(crate) fn filled(self, entries: &Entries) -> BufferPool
+        ensures { result ≡ with_entries self entries.now }
     {
         let mode = self.mode;
+        let starts = entries.starts;
+        let lengths = entries.lengths;
+        let serials = entries.serials;
+        let given = entries.given;
+        let callers = entries.callers;
         BufferPool {
             capacity: self.capacity,
             overflow: self.overflow,
             slots: self.slots,
             live: self.live,
-            starts: starts,
-            lengths: lengths,
-            serials: serials,
-            callers: callers,
-            given: given,
+            starts,
+            lengths,
+            serials,
+            given,
+            callers,
             back_start: self.back_start,
             back_len: self.back_len,
             used: self.used,
             raw_offset: self.raw_offset,
             raw_len: self.raw_len,
-            mode: mode,
+            mode,
             kept: self.kept,
             cursor: self.cursor,
             reserved: self.reserved,
@@ -121,7 +116,7 @@ impl Numbers {
 impl BufferPool {
     // The record's numbers. That the arrays which are left out have a place for every slot and caller, the types say.
     pub fn numbers(self) -> Numbers
-        ensures { (result ≡ numbers_of self) × (Whole (rest_of self)) }
+        ensures { (result ≡ numbers_of self) × (Whole (entries_of self)) }
     {
         let mode = self.mode;
         Numbers {
@@ -134,10 +129,28 @@ impl BufferPool {
             used: self.used,
             raw_offset: self.raw_offset,
             raw_len: self.raw_len,
-            mode: mode,
+            mode,
             kept: self.kept,
             cursor: self.cursor,
             reserved: self.reserved,
+        }
+    }
+
+    // The record's arrays.
+    pub fn entries(self) -> Entries
+        ensures { result ≡ entries_of self }
+    {
+        let starts = self.starts;
+        let lengths = self.lengths;
+        let serials = self.serials;
+        let given = self.given;
+        let callers = self.callers;
+        Entries {
+            starts,
+            lengths,
+            serials,
+            given,
+            callers,
         }
     }
 }

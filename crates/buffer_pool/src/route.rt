@@ -1,7 +1,6 @@
 // The way of a frame that a reserve places anew: where it lies in the pool, place after place, and whether it goes out to the overflow;
 // and the moves made on it.
-ghost use Rattle.std.specs.Prelude.{◌≡◌, true, ◌||◌, ◌+◌, ◌≤◌, eqb, length};
-ghost use Rattle.laws.specs.Tests.{pick};
+ghost use Rattle.std.specs.Prelude.{◌≡◌, true, false, ◌||◌, ◌+◌, ◌≤◌, eqb, length};
 ghost use Rattle.laws.specs.Lists.{moved};
 ghost use Rattle.buffer_pool.specs.Moves as spec;
 ghost use Rattle.buffer_pool.specs.Deciding.{stayed_at, onward, route_moves};
@@ -9,7 +8,7 @@ ghost use Rattle.buffer_pool.specs.Deciding.{stayed_at, onward, route_moves};
 use crate::inner_memory::{copy_between, copy_within};
 
 // The frame's length, where it starts, and two places for each call of `reserve_`; a place that is the one before is no move. From the
-// last place it goes out to the overflow, or it stays there.
+// last place it goes out to the overflow, or it stays there. No other field counts only where `out` is set.
 #[derive(Clone, Copy)]
 pub struct Route {
     pub size: u64,
@@ -21,24 +20,14 @@ pub struct Route {
     pub out: bool,
 }
 
-// The last place of a call of `reserve_`: that from which the frame goes out, or that to which it goes.
-fn last_place(out: bool, via: u64, to: u64) -> u64
-    ensures { result ≡ pick out via to }
-{
-    if out {
-        return via;
-    }
-    to
-}
-
 impl Route {
     // The way of a frame that stays.
     pub(crate) fn at(start: u64, size: u64) -> Self
         ensures { result ≡ stayed_at start size }
     {
         Route {
-            size: size,
-            start: start,
+            size,
+            start,
             first: start,
             second: start,
             third: start,
@@ -47,30 +36,35 @@ impl Route {
         }
     }
 
-    // The way after a call of `reserve_`, with so many changes before it, by which the frame goes by `via` to `to`, or out.
-    pub(crate) fn on(self, changes: u32, via: u64, out: bool, to: u64) -> Self
-        ensures { result ≡ onward self changes via out (pick out via to) }
+    // The way after a call of `reserve_`, with so many changes before it, by which the frame goes by `via` to `to`.
+    pub(crate) fn on(self, changes: u32, via: u64, to: u64) -> Self
+        ensures { result ≡ onward self changes via false to }
     {
-        let last = last_place(out, via, to);
         if changes == 0 {
             return Route {
-                size: self.size,
-                start: self.start,
                 first: via,
-                second: last,
-                third: last,
-                fourth: last,
-                out: out,
+                second: to,
+                third: to,
+                fourth: to,
+                out: false,
+                ..self
             };
         }
         Route {
-            size: self.size,
-            start: self.start,
-            first: self.first,
-            second: self.second,
             third: via,
-            fourth: last,
-            out: out,
+            fourth: to,
+            out: false,
+            ..self
+        }
+    }
+
+    // The way after a call of `reserve_` by which the frame goes out from `via`.
+    pub(crate) fn out_from(self, changes: u32, via: u64) -> Self
+        ensures { result ≡ onward self changes via true via }
+    {
+        Route {
+            out: true,
+            ..self.on(changes, via, via)
         }
     }
 }
@@ -79,10 +73,7 @@ impl Route {
 fn is_unmoved(start: u64, len: u64, to: u64) -> bool
     ensures { result ≡ (eqb len 0 || eqb start to) }
 {
-    if len == 0 {
-        return true;
-    }
-    start == to
+    len == 0 || start == to
 }
 
 // The move of a frame within the pool, if it is one: `InnerMemory::move_raw_at_offset`.

@@ -1,27 +1,19 @@
 // What commit, truncate, take and release read off a record: the frame, the reservation, and whether a handle names a live slice.
 ghost use Rattle.std.specs.Prelude.{◌≡◌, ◌+◌, ◌≤◌};
-ghost use Rattle.buffer_pool.specs.Record.{most_slots};
-ghost use Rattle.buffer_pool.specs.Numbers.{bare};
-ghost use Rattle.buffer_pool.specs.Lent.{handled};
+ghost use Rattle.buffer_pool.specs.Numbers.{bare, with_entries};
 ghost use Rattle.buffer_pool.specs.Placing.{is_alloc};
 ghost use Rattle.buffer_pool.specs.Steps as spec;
 
-use crate::buffer_pool::{BufferPool, Memory, Place, PoolMode};
-use crate::numbers::Numbers;
-use crate::slice::{Handle, is_live};
+use crate::buffer_pool::{BufferPool, Entries, Memory, Place, PoolMode};
+use crate::numbers::{Numbers, Tested};
+use crate::slice::{Handle, SharedState};
 
 // The frame: in the pool, or at the overflow's start.
 pub(crate) fn frame(n: Numbers) -> Place
     ensures { result ≡ spec.frame_of n.mode (bare n) }
 {
-    let mode = n.mode;
-    match mode {
-        PoolMode::Back => Place {
-            memory: Memory::Pool,
-            start: n.raw_offset,
-            length: n.raw_len,
-        },
-        PoolMode::Front(_) => Place {
+    match n.mode {
+        PoolMode::Back | PoolMode::Front(_) => Place {
             memory: Memory::Pool,
             start: n.raw_offset,
             length: n.raw_len,
@@ -38,12 +30,7 @@ pub(crate) fn frame(n: Numbers) -> Place
 pub(crate) fn in_overflow(n: Numbers) -> bool
     ensures { result ≡ is_alloc n.mode }
 {
-    let mode = n.mode;
-    match mode {
-        PoolMode::Back => false,
-        PoolMode::Front(_) => false,
-        PoolMode::Alloc => true,
-    }
+    matches!(n.mode, PoolMode::Alloc)
 }
 
 // The reservation: after the frame, in the same memory.
@@ -52,50 +39,31 @@ pub(crate) fn reservation(n: Numbers) -> Place
     ensures { result ≡ spec.reservation (bare n) }
 {
     let frame = frame(n);
-    let memory = frame.memory;
     Place {
-        memory: memory,
+        memory: frame.memory,
         start: frame.start + frame.length,
         length: n.reserved,
     }
 }
 
 // Does the handle name a live slot, with that slot's start, length, serial and caller, which is one of the callers?
-pub(crate) fn names<'a>(
-    slots: usize,
-    live: u16,
-    starts: &'a [u32; BufferPool::MOST_SLOTS],
-    lengths: &'a [u32; BufferPool::MOST_SLOTS],
-    serials: &'a [u32; BufferPool::MOST_SLOTS],
-    callers: &'a [u8; BufferPool::MOST_SLOTS],
-    h: Handle,
-) -> bool
-    requires { slots ≤ most_slots }
-    ensures { result ≡ spec.names slots (handled slots live starts.now lengths.now serials.now callers.now) h }
+pub(crate) fn names(t: Tested, entries: &Entries, h: Handle) -> bool
+    ensures { result ≡ spec.names t.n.slots (with_entries t.n entries.now) h }
 {
-    let slot = h.slot;
-    if slot < 1 {
+    let n = t.n;
+    let slot = h.slot as usize;
+    if slot < 1 || n.slots < slot {
         return false;
     }
-    let i = slot as usize;
-    if slots < i {
-        return false;
-    }
-    if !is_live(slots, live, i) {
-        return false;
-    }
-    let k = i - 1;
-    if h.start != starts[k] {
-        return false;
-    }
-    if h.length != lengths[k] {
-        return false;
-    }
-    if h.serial != serials[k] {
-        return false;
-    }
-    if h.caller != callers[k] {
-        return false;
-    }
-    (h.caller as usize) < BufferPool::CALLERS
+    let k = slot - 1;
+    let state = SharedState {
+        slots: n.slots,
+        live: n.live,
+    };
+    state.is_live(slot)
+        && h.start == entries.starts[k]
+        && h.length == entries.lengths[k]
+        && h.serial == entries.serials[k]
+        && h.caller == entries.callers[k]
+        && (h.caller as usize) < BufferPool::CALLERS
 }

@@ -1,50 +1,45 @@
--- The exported calls, from what their code has where it returns: the numbers of the record, what the pool's method says of what it gave (crate buffer_pool, specs/Lent.antt), and the record as it was stored.
--- Assumes nothing.
-use mathlib.Core.Path.{◌≡◌, refl, sym, ap, ◌∙◌, subst}
-use mathlib.Core.Bool.{Bool, true, false, not}
+-- The exported calls, from what their code has where it returns: what the pool's method says of what it gave (crate buffer_pool,
+-- specs/Lent.antt), and the record as it was stored. Assumes nothing.
+use mathlib.Core.Path.{◌≡◌, refl, sym, ap, ◌∙◌}
+use mathlib.Core.Bool.{Bool, true, false}
 use mathlib.Core.List.{List, []}
-use Prim.Native.Nat.{ℕ, zero, suc, ◌<◌}
-use native.Mathlib.Omega.{arith}
-use lib.ListN.{length}
+use Prim.Native.Nat.{ℕ}
+use Rattle.std.specs.Prelude.{Result, Ok, Err}
 use Rattle.laws.specs.Tests.{pick}
-use Rattle.laws.proofs.Tests.{pick_cases}
+use Rattle.laws.proofs.Tests.{both_true, no_true}
 use Rattle.buffer_pool.specs.declared.slice.Handle as pool
 use Rattle.buffer_pool.specs.declared.buffer_pool.BufferPool.{BufferPool}
-use Rattle.buffer_pool.specs.declared.buffer_pool.PoolFront.{PoolFront}
-use Rattle.buffer_pool.specs.declared.buffer_pool.PoolMode.{PoolMode}
-use Rattle.buffer_pool.specs.declared.buffer_pool.Answer.{Answer}
-use Rattle.buffer_pool.specs.declared.buffer_pool.Answer.TheVariants.{Refused}
+use Rattle.buffer_pool.specs.declared.buffer_pool.Entries.{Entries}
 use Rattle.buffer_pool.specs.declared.buffer_pool.Called.{Called}
-use Rattle.buffer_pool.specs.declared.buffer_pool.View.{View}
+use Rattle.buffer_pool.specs.declared.buffer_pool.Answer.{Answer}
+use Rattle.buffer_pool.specs.declared.buffer_pool.Answer.TheVariants.{Done, Reserved, Taken, Copied}
 use Rattle.buffer_pool.specs.declared.numbers.Numbers.{Numbers}
 use Rattle.buffer_pool.specs.declared.lent.Reserving.{Reserving}
 use Rattle.buffer_pool.specs.declared.lent.Resizing.{Resizing}
 use Rattle.buffer_pool.specs.declared.lent.Taking.{Taking}
-use Rattle.buffer_pool.specs.declared.lent.Releasing.{Releasing}
-use Rattle.buffer_pool.specs.Record.{most_slots, caller_count, without_entries}
+use Rattle.buffer_pool.specs.declared.lent.Taking.TheVariants as lent
+use Rattle.buffer_pool.specs.declared.refusals.Refusal.{Refusal}
+use Rattle.buffer_pool.specs.declared.refusals.Refusal.TheVariants.{Unsound}
+use Rattle.buffer_pool.specs.Record.{with_live, without_entries}
+use Rattle.buffer_pool.specs.Numbers.{with_numbers, with_entries, entered, cleared}
+use Rattle.buffer_pool.specs.Lent.{reserved_on, resized_on, reserve_called, resize_called, take_called, release_called}
 use Rattle.buffer_pool.specs.Moves.{Memories}
-use Rattle.buffer_pool.specs.Numbers.{Rest, Whole, filled, with_numbers}
-use Rattle.buffer_pool.specs.Lent.{Reserves, reserved_on, Resizes, Takes, Releases}
-use Rattle.buffer_pool.specs.Values.{values, refusal}
+use Rattle.buffer_pool.specs.Values.{Response, View, refusal_number, values}
 use Rattle.buffer_pool.specs.Soundness.{is_slot_count, sound}
-use Rattle.buffer_pool.specs.Steps.{refused, release_step}
+use Rattle.buffer_pool.specs.Steps.{called, refused}
 use Rattle.buffer_pool.specs.Calls as calls
-use Rattle.buffer_pool.specs.Calls.{Outcome, outcome, guarded, guarded_call, misfit, copied_out, hidden}
-use Rattle.buffer_pool.specs.Vocabulary.{Reserve, Take, Release, call, number_of}
+use Rattle.buffer_pool.specs.Calls.{Outcome, outcome, guarded, guarded_call, copied_out, hidden}
 use Rattle.buffer_pool.proofs.Soundness.{sound_use}
-use Rattle.buffer_pool.proofs.RefusedKeeps.{refused_keeps}
-use Rattle.buffer_pool.proofs.Unchanged.{SameSizes, reserve_sizes, take_sizes}
 use Rattle.buffer_pool_c.specs.declared.record.Record.{Record}
 use Rattle.buffer_pool_c.specs.declared.results.Handle.{Handle}
-use Rattle.buffer_pool_c.specs.declared.record.Changed.{Changed}
 use Rattle.buffer_pool_c.specs.declared.results.ReserveResult.{ReserveResult}
+use Rattle.buffer_pool_c.specs.declared.results.PlaceResult.{PlaceResult}
 use Rattle.buffer_pool_c.specs.declared.results.TakeResult.{TakeResult}
-use Rattle.buffer_pool_c.specs.Record.{known, mode_number, no_front, front_of, front_held, pool_of, record_of, record_after, numbers_of, live_after, mode_after, numbers_after}
-use Rattle.buffer_pool_c.specs.Results.{reserve_result, place_result, take_result, refusal_result, reserve_gives, take_gives, view_result, unknown_view, named, in_bytes}
+use Rattle.buffer_pool_c.specs.Record.{is_mode, is_live_word, known, no_front, pool_of, record_of, record_after, numbers_of, stored, resized}
+use Rattle.buffer_pool_c.specs.Results.{reserve_result, place_result, take_result, refusal_result, view_result, resize_result, unknown_view, named, in_bytes}
 use Rattle.buffer_pool_c.specs.Exports.{left, seen, exported, reserve, commit, truncate, take, release, newly, new, exported_view, frame, reservation, slice}
-use Rattle.buffer_pool_c.proofs.RecordLaws.{left_live, left_mode, rest_held, filled_known, slots_none, record_stored, front_stored}
+use Rattle.buffer_pool_c.proofs.RecordLaws.{record_held, mode_stored, slots_none, entries_known}
 use Rattle.buffer_pool_c.proofs.ResultLaws.{released_in_bytes, viewed_in_bytes}
-use Rattle.buffer_pool_c.proofs.Stored.{after, renumbered, cleared, entered}
 
 -- ---- A slot count of 0 is no pool's: refused with 1
 
@@ -56,263 +51,213 @@ unsound p = go (sound 0 p) refl
     go true e = sym (sound_use 0 p e).orderly.ready.is_count
     go false e = refl
 
-uncounted : {A : Type 0} (p : BufferPool) (m : Memories) (refuse : ℕ → A) (done : A) → guarded 0 p m refuse done ≡ refuse 1
+pub uncounted : {A : Type 0} (p : BufferPool) (m : Memories) (refuse : Refusal → A) (done : A) → guarded 0 p m refuse done ≡ refuse Unsound
 uncounted p m refuse done = rw (unsound p) refl
 
-guarded_off : (p : BufferPool) (m : Memories) (d : List ℕ) (o : Outcome) → guarded_call 0 p m d o ≡ outcome (refused p 1) m d
-guarded_off p m d o = uncounted p m (λ number. outcome (refused p number) m d) o
+pub guarded_off : (p : BufferPool) (m : Memories) (d : List ℕ) (o : Outcome) → guarded_call 0 p m d o ≡ outcome (refused p Unsound) m d
+guarded_off p m d o = uncounted p m (λ why. outcome (refused p why) m d) o
 
--- a call that leaves the memories, refused or not
-guarded_same : (w : ℕ) (p : BufferPool) (m : Memories) (c : Called) → ((guarded_call w p m [] (outcome c m [])).memory ≡ m) × ((guarded_call w p m [] (outcome c m [])).destination ≡ [])
-guarded_same w p m c =
-    pick_cases (λ (o : Outcome). (o.memory ≡ m) × (o.destination ≡ [])) (not (sound w p)) (λ _. (refl, refl))
-    (λ _. pick_cases (λ (o : Outcome). (o.memory ≡ m) × (o.destination ≡ [])) (misfit p m) (λ _. (refl, refl)) (λ _. (refl, refl)))
+-- ---- A call f of the pool's, with this result for C
 
--- ---- A commit and a truncate
+-- the record with its starts and lengths 0, where a reserve clears them
+abbrev pub reset : Record → Bool → Record
+reset h clears = pick clears (record h { entries = cleared h.entries }) h
 
--- of a call f that leaves the memories
-module _ (m : Memories) (f : ℕ → BufferPool → Outcome) (off : (p : BufferPool) → f 0 p ≡ outcome (refused p 1) m []) (same : (w : ℕ) (p : BufferPool) → ((f w p).memory ≡ m) × ((f w p).destination ≡ []))
-    (h : Record) (whole : Whole (rest_held h)) (c : Resizing) where
-  resized_as : ((o : Rest) → Whole o → Resizes (filled (numbers_of h) h.starts h.lengths o) (f (numbers_of h).slots (filled (numbers_of h) h.starts h.lengths o)) c)
-      → left (view_result c.view) (after h c) m [] ≡ exported place_result h m [] (f h.slots (pool_of h))
-  resized_as says = go (known h) refl
+abbrev is_refused : Response → Bool
+is_refused (Ok answer) = false
+is_refused (Err why) = true
+
+abbrev why_refused : Response → Refusal
+why_refused (Ok answer) = Unsound
+why_refused (Err why) = why
+
+module _ {A : Type 0} (result : Response → A) (m : Memories) (d : List ℕ) (f : ℕ → BufferPool → Outcome) (off : (p : BufferPool) → f 0 p ≡ outcome (refused p Unsound) m d)
+    (h : Record) (n : Numbers) (i : n ≡ numbers_of h) (after : Memories) (ended : List ℕ) where
+  abbrev p : BufferPool
+  p = with_entries n h.entries
+
+  is_pool : known h ≡ true → p ≡ pool_of h
+  is_pool k = ap (λ (x : Numbers). with_entries x h.entries) i ∙ entries_known h k
+
+  of_known : known h ≡ true → f n.slots p ≡ f h.slots (pool_of h)
+  of_known k = ap (λ (q : BufferPool). f q.slots q) (is_pool k)
+
+  of_other : known h ≡ false → f n.slots p ≡ outcome (refused p Unsound) m d
+  of_other k = ap (λ (w : ℕ). f w p) (ap (λ (x : Numbers). x.slots) i ∙ slots_none h k) ∙ off p
+
+  refused_as : (why : Refusal) → outcome (refused p why) after ended ≡ f n.slots p → left (result (Err why)) h after ended ≡ exported result h m d (f h.slots (pool_of h))
+  refused_as why e = go (known h) refl
     where
-      go : (b : Bool) → known h ≡ b → left (view_result c.view) (after h c) m [] ≡ pick b (seen place_result h (f h.slots (pool_of h))) (left (place_result (Refused 1)) h m [])
+      go : (b : Bool) → known h ≡ b → left (result (Err why)) h after ended ≡ pick b (seen result h (f h.slots (pool_of h))) (left (result (Err Unsound)) h m d)
       go true k =
-          let p = subst (λ (q : BufferPool). Resizes q (f q.slots q) c) (filled_known h k) (says (rest_held h) whole) in
-          let s = same h.slots (pool_of h) in
-          let t = record_stored h k in
-          rw (p.view_is, s.0, s.1, ← p.record_is, t.0, t.1) refl
+          ap (λ (r : Record). left (result (Err why)) r after ended) (sym (record_held h k) ∙ ap (record_after h) (sym (is_pool k)))
+          ∙ ap (seen result h) (e ∙ of_known k)
       go false k =
-          let p = subst (λ (o : Outcome). Resizes (filled (numbers_of h) h.starts h.lengths (rest_held h)) o c) (ap (λ (w : ℕ). f w (filled (numbers_of h) h.starts h.lengths (rest_held h))) (slots_none h k) ∙ off _) (says (rest_held h) whole) in
-          rw (p.view_is, ap (λ (q : BufferPool). q.raw_len) p.record_is, ap (λ (q : BufferPool). q.cursor) p.record_is, ap (λ (q : BufferPool). q.reserved) p.record_is) refl
+          let x = e ∙ of_other k in
+          ap (λ (y : Refusal). left (result (Err y)) h after ended) (ap (λ (y : Outcome). why_refused y.call.answer) x)
+          ∙ ap (λ (y : Outcome). left (result (Err Unsound)) h y.memory y.destination) x
 
--- what the pool's commit says, and its truncate
-abbrev pub Commits : Numbers → List ℕ → List ℕ → Memories → ℕ → Resizing → Type 0
-Commits n starts lengths m k c = (o : Rest) → Whole o → Resizes (filled n starts lengths o) (calls.commit n.slots (filled n starts lengths o) m k) c
-
-abbrev pub Truncates : Numbers → List ℕ → List ℕ → Memories → ℕ → Resizing → Type 0
-Truncates n starts lengths m k c = (o : Rest) → Whole o → Resizes (filled n starts lengths o) (calls.truncate n.slots (filled n starts lengths o) m k) c
-
-module _ (h : Record) (whole : Whole (rest_held h)) (m : Memories) (k : ℕ) (n : Numbers) (e : n ≡ numbers_of h) (c : Resizing) where
-  pub commit_as : Commits n h.starts h.lengths m k c → left (view_result c.view) (after h c) m [] ≡ commit h m k
-  unfolding commit calls.commit
-  commit_as says = resized_as m (λ w p. calls.commit w p m k) (λ p. guarded_off p m [] _) (λ w p. guarded_same w p m _) h whole c (subst (λ (x : Numbers). Commits x h.starts h.lengths m k c) e says)
-
-  pub truncate_as : Truncates n h.starts h.lengths m k c → left (view_result c.view) (after h c) m [] ≡ truncate h m k
-  unfolding truncate calls.truncate
-  truncate_as says = resized_as m (λ w p. calls.truncate w p m k) (λ p. guarded_off p m [] _) (λ w p. guarded_same w p m _) h whole c (subst (λ (x : Numbers). Truncates x h.starts h.lengths m k c) e says)
-
--- ---- A release
-
--- a number that a call which is not refused makes, and a refused one leaves, is what the call left
-kept_after : (before live number : ℕ) → (0 < number → live ≡ before) → live_after before live number ≡ live
-kept_after before live zero e = refl
-kept_after before live (suc number) e = sym (left_live before live (suc number) (λ z. omega (arith, z))) ∙ sym (e (omega arith))
-
--- what the pool's release says
-abbrev pub Frees : Numbers → List ℕ → List ℕ → List ℕ → List ℕ → Memories → pool.Handle → Releasing → Type 0
-Frees n starts lengths serials callers m k c =
-    (given : List ℕ) → length given ≡ caller_count → Releases (filled n starts lengths (record { serials = serials; callers = callers; given = given })) (calls.release n.slots (filled n starts lengths (record { serials = serials; callers = callers; given = given })) m k) c
-
-module _ (h : Record) (whole : Whole (rest_held h)) (m : Memories) (n : Numbers) (e : n ≡ numbers_of h) (a : Handle) (k : pool.Handle) (i : k ≡ named (in_bytes a)) (c : Releasing) where
-  pub release_as : Frees n h.starts h.lengths h.serials h.callers m k c → (l : ℕ) → l ≡ live_after h.live c.live c.number → left c.number (record h { live = l }) m [] ≡ release h m a
-  unfolding release calls.release call number_of refusal
-  release_as says l j = go (known h) refl
+  done_as : (answer : Answer) (q : BufferPool) → outcome (called q (Ok answer)) after ended ≡ f n.slots p → (s : Record) → (known h ≡ true → s ≡ record_after h q)
+      → left (result (Ok answer)) s after ended ≡ exported result h m d (f h.slots (pool_of h))
+  done_as answer q e s g = go (known h) refl
     where
-      p : Releases (filled (numbers_of h) h.starts h.lengths (rest_held h)) (calls.release (numbers_of h).slots (filled (numbers_of h) h.starts h.lengths (rest_held h)) m (named (in_bytes a))) c
-      p = subst (λ (x : Numbers). Frees x h.starts h.lengths h.serials h.callers m (named (in_bytes a)) c) e (subst (λ (x : pool.Handle). Frees n h.starts h.lengths h.serials h.callers m x c) i says) h.given whole.given_all
+      go : (b : Bool) → known h ≡ b → left (result (Ok answer)) s after ended ≡ pick b (seen result h (f h.slots (pool_of h))) (left (result (Err Unsound)) h m d)
+      go true k = ap (λ (x : Record). left (result (Ok answer)) x after ended) (g k) ∙ ap (seen result h) (e ∙ of_known k)
+      go false k = absurd (no_true (ap (λ (y : Outcome). is_refused y.call.answer) (e ∙ of_other k)))
 
-      go : (b : Bool) → known h ≡ b → left c.number (record h { live = l }) m [] ≡ pick b (seen refusal_result h (calls.release h.slots (pool_of h) m (named a))) (left 1 h m [])
-      go true t =
-          let q = subst (λ (o : Outcome). Releases (pool_of h) o c) (released_in_bytes h.slots (pool_of h) m a) (subst (λ (x : BufferPool). Releases x (calls.release x.slots x m (named (in_bytes a))) c) (filled_known h t) p) in
-          let s = guarded_same h.slots (pool_of h) m (release_step h.slots (pool_of h) (named a)) in
-          let u = record_stored h t in
-          let v = kept_after h.live c.live c.number (λ z. ap (λ (x : BufferPool). x.live) (q.record_is ∙ ap (λ (o : Outcome). o.call.pool) (refused_keeps h.slots (pool_of h) m (Release (named a)) (subst (λ (x : ℕ). 0 < x) q.number_is z)))) in
-          rw (q.number_is, j ∙ v, s.0, s.1, ← q.record_is, u.0, u.1) refl
-      go false t =
-          let q = subst (λ (o : Outcome). Releases (filled (numbers_of h) h.starts h.lengths (rest_held h)) o c) (ap (λ (w : ℕ). calls.release w (filled (numbers_of h) h.starts h.lengths (rest_held h)) m (named (in_bytes a))) (slots_none h t) ∙ guarded_off _ m [] _) p in
-          rw (j, q.number_is) refl
+module _ (h : Record) (n : Numbers) (i : n ≡ numbers_of h) (m after : Memories) where
+  abbrev q : BufferPool
+  q = with_entries n h.entries
 
--- ---- A reserve and a take: the record as its numbers are stored
+  -- the record with the numbers that a commit, a truncate or a release stores
+  resized_stored : (x : Resizing) → known h ≡ true → record h { raw_len = x.raw_len; cursor = x.cursor; reserved = 0 } ≡ record_after h (resized_on q x)
+  resized_stored x k = rw (i, k, (both_true (is_live_word h.live) (is_mode h.mode) k).0, (mode_stored h k).0, (mode_stored h k).1) refl
 
--- h with the arrays of q, and with its numbers as C holds them after a call with this number of its refusal
-abbrev laid_after : Record → ℕ → BufferPool → Record
-laid_after h number q =
-    record {
-      capacity = h.capacity;
-      overflow = h.overflow;
-      slots = h.slots;
-      starts = q.starts;
-      lengths = q.lengths;
-      serials = q.serials;
-      given = q.given;
-      callers = q.callers;
-      live = live_after h.live q.live number;
-      mode = mode_after h.mode q.mode number;
-      back_start = q.back_start;
-      back_len = q.back_len;
-      used = q.used;
-      raw_offset = q.raw_offset;
-      raw_len = q.raw_len;
-      front_back_start = (front_of q.mode (front_held h)).back_start;
-      front_byte_capacity = (front_of q.mode (front_held h)).byte_capacity;
-      front_len = (front_of q.mode (front_held h)).len;
-      kept = q.kept;
-      cursor = q.cursor;
-      reserved = q.reserved;
-    }
+  live_stored : (live : ℕ) → known h ≡ true → record h { live = live } ≡ record_after h (with_live q live)
+  live_stored live k = rw (i, k, (mode_stored h k).0, (mode_stored h k).1) refl
 
--- what the code has where it returns, of what the direct call left
-record Told {A : Type 0} (result : Answer → A) (h : Record) (r : A) (number : ℕ) (s : Record) (m : Memories) (d : List ℕ) (o : Outcome) : Type 0 where
-  result_is : r ≡ result o.call.answer
-  number_is : number ≡ (values o.call.answer).number
-  record_is : s ≡ laid_after h number o.call.pool
-  memory_is : m ≡ o.memory
-  destination_is : d ≡ o.destination
+  -- ---- Reserve
 
-mode_kept_after : (before : ℕ) (mode : PoolMode) (number : ℕ) → (0 < number → mode_number mode ≡ before) → mode_after before mode number ≡ mode_number mode
-mode_kept_after before mode zero e = refl
-mode_kept_after before mode (suc number) e = sym (left_mode before mode (suc number) (λ z. omega (arith, z))) ∙ sym (e (omega arith))
+  module _ (len : ℕ) where
+    pub reserve_refused : (why : Refusal) → outcome (refused q why) after [] ≡ calls.reserve n.slots q m len → (r : ReserveResult) → r ≡ reserve_result (Err why)
+        → left r h after [] ≡ reserve h m len
+    unfolding reserve calls.reserve
+    reserve_refused why e r g = rw g (refused_as reserve_result m [] (λ w p. calls.reserve w p m len) (λ p. guarded_off p m [] _) h n i after [] why e)
 
--- of a pool's record it is the record of the pool, if a refused call left the pool
-laid_known : (h : Record) → known h ≡ true → (number : ℕ) (q : BufferPool) → SameSizes (pool_of h) q → (0 < number → q ≡ pool_of h) → laid_after h number q ≡ record_after h q
-laid_known h k number q sizes keeps =
-    let l = kept_after h.live q.live number (λ z. ap (λ (x : BufferPool). x.live) (keeps z)) in
-    let t = mode_kept_after h.mode q.mode number (λ z. ap (λ (x : BufferPool). mode_number x.mode) (keeps z) ∙ (record_stored h k).0) in
-    rw (l, t, ← sizes.0, ← sizes.1, ← sizes.2) refl
+    pub reserve_done : (x : Reserving) → outcome (called (reserved_on q x) (Ok (Reserved x.place x.changes))) after [] ≡ calls.reserve n.slots q m len
+        → (b : Record) → b ≡ reset h x.clears → (s : Record) → s ≡ stored b x.numbers → (r : ReserveResult) → r ≡ reserve_result (Ok (Reserved x.place x.changes))
+        → left r s after [] ≡ reserve h m len
+    unfolding reserve calls.reserve
+    reserve_done x e b f s g r j =
+        rw j (done_as reserve_result m [] (λ w p. calls.reserve w p m len) (λ p. guarded_off p m [] _) h n i after [] _ (reserved_on q x) e s
+        (λ k. g ∙ rw f (go x.clears)))
+      where
+        go : (clears : Bool) → stored (reset h clears) x.numbers ≡ record_after h (pick clears (without_entries (with_numbers q x.numbers)) (with_numbers q x.numbers))
+        go true = refl
+        go false = refl
 
--- of any other it is the record that stood there
-laid_unknown : (h : Record) → laid_after h 1 (filled (numbers_of h) h.starts h.lengths (rest_held h)) ≡ h
-laid_unknown h = rw (front_stored h.mode (front_held h)) refl
+    abbrev pub reserve_stored : Result Reserving Refusal → Record
+    reserve_stored (Ok x) = stored (reset h x.clears) x.numbers
+    reserve_stored (Err why) = h
 
-module _ {A : Type 0} (result : Answer → A) (m : Memories) (d : List ℕ) (f : ℕ → BufferPool → Outcome) (off : (p : BufferPool) → f 0 p ≡ outcome (refused p 1) m d)
-    (sizes : (w : ℕ) (p : BufferPool) → SameSizes p (f w p).call.pool) (keeps : (w : ℕ) (p : BufferPool) → 0 < (values (f w p).call.answer).number → (f w p).call.pool ≡ p) where
-  told_as : (h : Record) (r : A) (number : ℕ) (s : Record) (after : Memories) (ended : List ℕ) → Told result h r number s after ended (f (numbers_of h).slots (filled (numbers_of h) h.starts h.lengths (rest_held h)))
-      → left r s after ended ≡ exported result h m d (f h.slots (pool_of h))
-  told_as h r number s after ended told = go (known h) refl
-    where
-      go : (b : Bool) → known h ≡ b → left r s after ended ≡ pick b (seen result h (f h.slots (pool_of h))) (left (result (Refused 1)) h m d)
-      go true k =
-          let t = subst (λ (q : BufferPool). Told result h r number s after ended (f q.slots q)) (filled_known h k) told in
-          let u = laid_known h k number (f h.slots (pool_of h)).call.pool (sizes h.slots (pool_of h)) (λ z. keeps h.slots (pool_of h) (subst (λ (x : ℕ). 0 < x) t.number_is z)) in
-          rw (t.result_is, t.record_is ∙ u, t.memory_is, t.destination_is) refl
-      go false k =
-          let t = subst (λ (o : Outcome). Told result h r number s after ended o) (ap (λ (w : ℕ). f w (filled (numbers_of h) h.starts h.lengths (rest_held h))) (slots_none h k) ∙ off _) told in
-          let u = ap (λ (x : ℕ). laid_after h x (filled (numbers_of h) h.starts h.lengths (rest_held h))) t.number_is ∙ laid_unknown h in
-          rw (t.result_is, t.record_is ∙ u, t.memory_is, t.destination_is) refl
+    pub reserve_as : (y : Result Reserving Refusal) → outcome (reserve_called q y) after [] ≡ calls.reserve n.slots q m len
+        → left (reserve_result (reserve_called q y).answer) (reserve_stored y) after [] ≡ reserve h m len
+    reserve_as (Ok x) e = reserve_done x e (reset h x.clears) refl _ refl _ refl
+    reserve_as (Err why) e = reserve_refused why e _ refl
 
--- a call that keeps the sizes where it is not refused with 1 or 2, and the destination
-guarded_sizes : (w : ℕ) (p : BufferPool) (m : Memories) (d : List ℕ) (o : Outcome) → SameSizes p o.call.pool → SameSizes p (guarded_call w p m d o).call.pool
-guarded_sizes w p m d o e =
-    pick_cases (λ (x : Outcome). SameSizes p x.call.pool) (not (sound w p)) (λ _. (refl, refl, refl))
-    (λ _. pick_cases (λ (x : Outcome). SameSizes p x.call.pool) (misfit p m) (λ _. (refl, refl, refl)) (λ _. e))
+  -- ---- Commit and truncate
 
-guarded_ended : (w : ℕ) (p : BufferPool) (m : Memories) (d : List ℕ) (o : Outcome) → o.destination ≡ d → (guarded_call w p m d o).destination ≡ d
-guarded_ended w p m d o e =
-    pick_cases (λ (x : Outcome). x.destination ≡ d) (not (sound w p)) (λ _. refl) (λ _. pick_cases (λ (x : Outcome). x.destination ≡ d) (misfit p m) (λ _. refl) (λ _. e))
+  module _ (f : ℕ → BufferPool → Outcome) (off : (p : BufferPool) → f 0 p ≡ outcome (refused p Unsound) m []) where
+    resized_as : (y : Result Resizing Refusal) → outcome (resize_called q y) after [] ≡ f n.slots q → (s : Record) → s ≡ resized h y → (r : PlaceResult) → r ≡ resize_result y
+        → left r s after [] ≡ exported place_result h m [] (f h.slots (pool_of h))
+    resized_as (Ok x) e s g r j = rw (g, j) (done_as place_result m [] f off h n i after [] _ (resized_on q x) e _ (resized_stored x))
+    resized_as (Err why) e s g r j = rw (g, j) (refused_as place_result m [] f off h n i after [] why e)
 
--- the record where the starts and lengths are cleared
-abbrev pub reset : Record → Reserving → Record
-reset h c = pick c.clears (cleared h) h
+  module _ (k : ℕ) where
+    pub commit_as : (y : Result Resizing Refusal) → outcome (resize_called q y) after [] ≡ calls.commit n.slots q m k → (s : Record) → s ≡ resized h y → (r : PlaceResult) → r ≡ resize_result y
+        → left r s after [] ≡ commit h m k
+    unfolding commit calls.commit
+    commit_as = resized_as (λ w p. calls.commit w p m k) (λ p. guarded_off p m [] _)
 
--- what the pool's reserve says
-abbrev pub ReservesAs : Numbers → List ℕ → List ℕ → Memories → ℕ → Memories → Reserving → Type 0
-ReservesAs n starts lengths m len after c = (o : Rest) → Whole o → Reserves (filled n starts lengths o) after (calls.reserve n.slots (filled n starts lengths o) m len) c
+    pub truncate_as : (y : Result Resizing Refusal) → outcome (resize_called q y) after [] ≡ calls.truncate n.slots q m k → (s : Record) → s ≡ resized h y → (r : PlaceResult) → r ≡ resize_result y
+        → left r s after [] ≡ truncate h m k
+    unfolding truncate calls.truncate
+    truncate_as = resized_as (λ w p. calls.truncate w p m k) (λ p. guarded_off p m [] _)
 
-module _ (h : Record) (whole : Whole (rest_held h)) (all-starts : length h.starts ≡ most_slots) (all-lengths : length h.lengths ≡ most_slots) (m : Memories) (len : ℕ) (n : Numbers) (e : n ≡ numbers_of h) (after : Memories) (c : Reserving) where
-  -- the code's stores are what the pool's record becomes
-  reset_stored : (x : Numbers) → renumbered (reset h c) (numbers_after h c.numbers c.view.number) ≡ laid_after h c.view.number (reserved_on (filled x h.starts h.lengths (rest_held h)) c)
-  reset_stored x = go c.clears
-    where
-      go : (b : Bool) → renumbered (pick b (cleared h) h) (numbers_after h c.numbers c.view.number)
-          ≡ laid_after h c.view.number (pick b (without_entries (with_numbers (filled x h.starts h.lengths (rest_held h)) c.numbers)) (with_numbers (filled x h.starts h.lengths (rest_held h)) c.numbers))
-      go true = rw (all-starts, all-lengths) refl
-      go false = refl
+  -- ---- Take
 
-  pub reserve_as : ReservesAs n h.starts h.lengths m len after c → (y : Changed) → y ≡ numbers_after h c.numbers c.view.number → (r : ReserveResult) → r ≡ reserve_gives c
-      → left r (renumbered (reset h c) y) after [] ≡ reserve h m len
-  unfolding reserve calls.reserve call number_of refusal
-  reserve_as says y i r j =
-      told_as reserve_result m [] (λ w p. calls.reserve w p m len) (λ p. guarded_off p m [] _) (λ w p. guarded_sizes w p m [] _ (reserve_sizes p w len)) (λ w p z. ap (λ (o : Outcome). o.call.pool) (refused_keeps w p m (Reserve len) z))
-      h r c.view.number (renumbered (reset h c) y) after [] told
-    where
-      p : Reserves (filled (numbers_of h) h.starts h.lengths (rest_held h)) after (calls.reserve (numbers_of h).slots (filled (numbers_of h) h.starts h.lengths (rest_held h)) m len) c
-      p = subst (λ (x : Numbers). ReservesAs x h.starts h.lengths m len after c) e says (rest_held h) whole
+  module _ (caller : ℕ) (d ended : List ℕ) where
+    pub take_refused : (why : Refusal) → outcome (refused q why) after ended ≡ calls.take n.slots q m caller d → (r : TakeResult) → r ≡ take_result (Err why)
+        → left r h after ended ≡ take h m caller d
+    unfolding take calls.take copied_out
+    take_refused why e r g = rw g (refused_as take_result m d (λ w p. calls.take w p m caller d) (λ p. guarded_off p m d _) h n i after ended why e)
 
-      told : Told reserve_result h r c.view.number (renumbered (reset h c) y) after [] (calls.reserve (numbers_of h).slots (filled (numbers_of h) h.starts h.lengths (rest_held h)) m len)
-      told = record {
-        result_is = j ∙ rw (p.view_is, p.changes_is) refl;
-        number_is = ap (λ (v : View). v.number) p.view_is;
-        record_is = rw i (reset_stored (numbers_of h)) ∙ ap (laid_after h c.view.number) p.record_is;
-        memory_is = p.memory_is;
-        destination_is = sym (guarded_ended (numbers_of h).slots (filled (numbers_of h) h.starts h.lengths (rest_held h)) m [] _ refl);
-      }
+    module _ (y : Result Taking Refusal) (e : outcome (take_called q y) after ended ≡ calls.take n.slots q m caller d) (t : Taking) (g : y ≡ Ok t) where
+      given : (v : Taking) → t ≡ v → outcome (take_called q (Ok v)) after ended ≡ calls.take n.slots q m caller d
+      given v f = ap (λ (z : Result Taking Refusal). outcome (take_called q z) after ended) (sym (g ∙ ap (λ (z : Taking). Ok z) f)) ∙ e
 
--- what the pool's take says
-abbrev pub TakesAs : Numbers → Record → Memories → ℕ → List ℕ → Memories → List ℕ → Taking → Type 0
-TakesAs n h m caller d after ended c = Takes (filled n h.starts h.lengths (rest_held h)) after ended (calls.take n.slots (filled n h.starts h.lengths (rest_held h)) m caller d) c
+      pub take_copied : (len : ℕ) (x : Numbers) → t ≡ lent.Copied len x → (s : Record) → s ≡ stored h x → (r : TakeResult) → r ≡ take_result (Ok (Copied len))
+          → left r s after ended ≡ take h m caller d
+      unfolding take calls.take copied_out
+      take_copied len x f s k r j =
+          rw j (done_as take_result m d (λ w p. calls.take w p m caller d) (λ p. guarded_off p m d _) h n i after ended _ (with_numbers q x) (given (lent.Copied len x) f) s (λ z. k))
 
-module _ (h : Record) (m : Memories) (caller : ℕ) (d : List ℕ) (n : Numbers) (e : n ≡ numbers_of h) (after : Memories) (ended : List ℕ) (c : Taking) where
-  pub take_as : TakesAs n h m caller d after ended c → (y : Changed) → y ≡ numbers_after h c.numbers c.number → (r : TakeResult) → r ≡ take_gives c
-      → left r (renumbered (entered h c.entry) y) after ended ≡ take h m caller d
-  unfolding take calls.take copied_out call number_of refusal
-  take_as says y i r j =
-      told_as take_result m d (λ w p. calls.take w p m caller d) (λ p. guarded_off p m d _) (λ w p. guarded_sizes w p m d _ (take_sizes p w caller (length d))) (λ w p z. ap (λ (o : Outcome). o.call.pool) (refused_keeps w p m (Take caller d) z))
-      h r c.number (renumbered (entered h c.entry) y) after ended told
-    where
-      p : TakesAs (numbers_of h) h m caller d after ended c
-      p = subst (λ (x : Numbers). TakesAs x h m caller d after ended c) e says
+      pub take_pooled : (a : pool.Handle) (x : Numbers) → t ≡ lent.Pooled a x → (entries : Entries) → entries ≡ entered h.entries a
+          → (s : Record) → s ≡ stored (record h { entries = entries }) x → (r : TakeResult) → r ≡ take_result (Ok (Taken a))
+          → left r s after ended ≡ take h m caller d
+      unfolding take calls.take copied_out
+      take_pooled a x f entries l s k r j =
+          rw j (done_as take_result m d (λ w p. calls.take w p m caller d) (λ p. guarded_off p m d _) h n i after ended _ (with_entries x (entered h.entries a)) (given (lent.Pooled a x) f) s (λ z. k ∙ rw l refl))
 
-      told : Told take_result h r c.number (renumbered (entered h c.entry) y) after ended (calls.take (numbers_of h).slots (filled (numbers_of h) h.starts h.lengths (rest_held h)) m caller d)
-      told = record {
-        result_is = j ∙ rw (p.handle_is, p.copied_is, p.number_is) refl;
-        number_is = p.number_is;
-        record_is = rw i refl ∙ ap (laid_after h c.number) p.record_is;
-        memory_is = p.memory_is;
-        destination_is = p.destination_is;
-      }
+    abbrev pub take_stored : Result Taking Refusal → Record
+    take_stored (Ok (lent.Copied len x)) = stored h x
+    take_stored (Ok (lent.Pooled a x)) = stored (record h { entries = entered h.entries a }) x
+    take_stored (Err why) = h
+
+    pub take_as : (y : Result Taking Refusal) → outcome (take_called q y) after ended ≡ calls.take n.slots q m caller d
+        → left (take_result (take_called q y).answer) (take_stored y) after ended ≡ take h m caller d
+    take_as (Ok (lent.Copied len x)) e = take_copied _ e _ refl len x refl _ refl _ refl
+    take_as (Ok (lent.Pooled a x)) e = take_pooled _ e _ refl a x refl _ refl _ refl _ refl
+    take_as (Err why) e = take_refused why e _ refl
+
+  -- ---- Release and the view of a slice
+
+  module _ (a : Handle) (b : pool.Handle) (j : b ≡ named (in_bytes a)) where
+    same_release : (p : BufferPool) → calls.release p.slots p m b ≡ calls.release p.slots p m (named a)
+    same_release p = ap (calls.release p.slots p m) j ∙ released_in_bytes p.slots p m a
+
+    pub release_refused : (why : Refusal) → outcome (refused q why) after [] ≡ calls.release n.slots q m b → (r : ℕ) → r ≡ refusal_number why
+        → left r h after [] ≡ release h m a
+    unfolding release calls.release
+    release_refused why e r g =
+        rw g (refused_as refusal_result m [] (λ w p. calls.release w p m (named a)) (λ p. guarded_off p m [] _) h n i after [] why (e ∙ same_release q))
+
+    pub release_done : (live : ℕ) → outcome (called (with_live q live) (Ok Done)) after [] ≡ calls.release n.slots q m b
+        → left 0 (record h { live = live }) after [] ≡ release h m a
+    unfolding release calls.release
+    release_done live e =
+        done_as refusal_result m [] (λ w p. calls.release w p m (named a)) (λ p. guarded_off p m [] _) h n i after [] Done (with_live q live) (e ∙ same_release q) _ (live_stored live)
+
+    abbrev pub release_stored : Result ℕ Refusal → Record
+    release_stored (Ok live) = record h { live = live }
+    release_stored (Err why) = h
+
+    pub release_as : (y : Result ℕ Refusal) → outcome (release_called q y) after [] ≡ calls.release n.slots q m b
+        → left (refusal_result (release_called q y).answer) (release_stored y) after [] ≡ release h m a
+    release_as (Ok live) e = release_done live e
+    release_as (Err why) e = release_refused why e _ refl
 
 -- ---- Views
 
-viewed_as : (f : ℕ → BufferPool → View) → ((p : BufferPool) → f 0 p ≡ hidden 1) → (h : Record) (c : View) → c ≡ f (numbers_of h).slots (filled (numbers_of h) h.starts h.lengths (rest_held h)) → view_result c ≡ exported_view h (f h.slots (pool_of h))
-viewed_as f off h c e = go (known h) refl
+viewed_as : (f : ℕ → BufferPool → View) → ((p : BufferPool) → f 0 p ≡ hidden Unsound) → (h : Record) (n : Numbers) → n ≡ numbers_of h → (v : View)
+    → v ≡ f n.slots (with_entries n h.entries) → view_result v ≡ exported_view h (f h.slots (pool_of h))
+viewed_as f off h n i v e = go (known h) refl
   where
-    go : (b : Bool) → known h ≡ b → view_result c ≡ pick b (view_result (f h.slots (pool_of h))) unknown_view
-    go true k = ap view_result (e ∙ ap (λ (q : BufferPool). f q.slots q) (filled_known h k))
-    go false k = ap view_result (e ∙ ap (λ (w : ℕ). f w (filled (numbers_of h) h.starts h.lengths (rest_held h))) (slots_none h k) ∙ off _)
+    at_numbers : v ≡ f (numbers_of h).slots (with_entries (numbers_of h) h.entries)
+    at_numbers = e ∙ ap (λ (x : Numbers). f x.slots (with_entries x h.entries)) i
 
-abbrev pub Frames : Numbers → List ℕ → List ℕ → Memories → View → Type 0
-Frames n starts lengths m c = (o : Rest) → Whole o → c ≡ calls.frame_view n.slots (filled n starts lengths o) m
+    go : (b : Bool) → known h ≡ b → view_result v ≡ pick b (view_result (f h.slots (pool_of h))) unknown_view
+    go true k = ap view_result (at_numbers ∙ ap (λ (q : BufferPool). f q.slots q) (entries_known h k))
+    go false k = ap view_result (at_numbers ∙ ap (λ (w : ℕ). f w (with_entries (numbers_of h) h.entries)) (slots_none h k) ∙ off _)
 
-abbrev pub Reservations : Numbers → List ℕ → List ℕ → Memories → View → Type 0
-Reservations n starts lengths m c = (o : Rest) → Whole o → c ≡ calls.reservation_view n.slots (filled n starts lengths o) m
-
-module _ (h : Record) (whole : Whole (rest_held h)) (m : Memories) (n : Numbers) (e : n ≡ numbers_of h) (c : View) where
-  pub frame_as : Frames n h.starts h.lengths m c → view_result c ≡ frame h m
+module _ (h : Record) (n : Numbers) (i : n ≡ numbers_of h) (m : Memories) (v : View) (r : PlaceResult) (j : r ≡ view_result v) where
+  pub frame_as : v ≡ calls.frame_view n.slots (with_entries n h.entries) m → r ≡ frame h m
   unfolding frame calls.frame_view
-  frame_as says = viewed_as (λ w p. calls.frame_view w p m) (λ p. uncounted p m hidden _) h c (subst (λ (x : Numbers). Frames x h.starts h.lengths m c) e says (rest_held h) whole)
+  frame_as e = j ∙ viewed_as (λ w p. calls.frame_view w p m) (λ p. uncounted p m hidden _) h n i v e
 
-  pub reservation_as : Reservations n h.starts h.lengths m c → view_result c ≡ reservation h m
+  pub reservation_as : v ≡ calls.reservation_view n.slots (with_entries n h.entries) m → r ≡ reservation h m
   unfolding reservation calls.reservation_view
-  reservation_as says = viewed_as (λ w p. calls.reservation_view w p m) (λ p. uncounted p m hidden _) h c (subst (λ (x : Numbers). Reservations x h.starts h.lengths m c) e says (rest_held h) whole)
+  reservation_as e = j ∙ viewed_as (λ w p. calls.reservation_view w p m) (λ p. uncounted p m hidden _) h n i v e
 
-abbrev pub Slices : Numbers → List ℕ → List ℕ → List ℕ → List ℕ → Memories → pool.Handle → View → Type 0
-Slices n starts lengths serials callers m k c =
-    (given : List ℕ) → length given ≡ caller_count → c ≡ calls.slice_view n.slots (filled n starts lengths (record { serials = serials; callers = callers; given = given })) m k
-
-module _ (h : Record) (whole : Whole (rest_held h)) (m : Memories) (n : Numbers) (e : n ≡ numbers_of h) (a : Handle) (k : pool.Handle) (i : k ≡ named (in_bytes a)) where
-  pub slice_as : (c : View) → Slices n h.starts h.lengths h.serials h.callers m k c → view_result c ≡ slice h m a
+  pub slice_as : (a : Handle) (b : pool.Handle) → b ≡ named (in_bytes a) → v ≡ calls.slice_view n.slots (with_entries n h.entries) m b → r ≡ slice h m a
   unfolding slice calls.slice_view
-  slice_as c says =
-      viewed_as (λ w p. calls.slice_view w p m (named (in_bytes a))) off h c (subst (λ (x : Numbers). Slices x h.starts h.lengths h.serials h.callers m (named (in_bytes a)) c) e (subst (λ (x : pool.Handle). Slices n h.starts h.lengths h.serials h.callers m x c) i says) h.given whole.given_all)
-      ∙ ap (exported_view h) (viewed_in_bytes h.slots (pool_of h) m a)
-    where
-      off : (p : BufferPool) → calls.slice_view 0 p m (named (in_bytes a)) ≡ hidden 1
-      off p = uncounted p m hidden _
+  slice_as a b k e =
+      j ∙ viewed_as (λ w p. calls.slice_view w p m (named a)) (λ p. uncounted p m hidden _) h n i v
+      (e ∙ ap (calls.slice_view n.slots (with_entries n h.entries) m) k ∙ viewed_in_bytes n.slots (with_entries n h.entries) m a)
 
 -- ---- New
 
-pub new_as : (w : ℕ) (c : Called) (m after : Memories) → outcome c after [] ≡ calls.new w m → (n : ℕ) → n ≡ (values c.answer).number → (before : PoolFront) → before ≡ no_front → (h : Record) → h ≡ record_of before c.pool → left n h after [] ≡ new w m
+pub new_as : (w : ℕ) (c : Called) (m after : Memories) → outcome c after [] ≡ calls.new w m → (number : ℕ) → number ≡ (values c.answer).number
+    → (h : Record) → h ≡ record_of no_front c.pool → left number h after [] ≡ new w m
 unfolding new
-new_as w c m after g n f before v h i = rw (f, i, v) (ap newly g)
+new_as w c m after g number f h i = rw (f, i) (ap newly g)

@@ -1,4 +1,4 @@
--- The results, from what the code of results.rt knows where it returns. Assumes nothing.
+-- A handle of C's with its slot and its caller in a byte each: it names what C's handle names. Assumes nothing.
 use mathlib.Core.Path.{◌≡◌, refl, sym, ap, ◌∙◌}
 use mathlib.Core.Bool.{Bool, true, false, not}
 use mathlib.Core.List.{[]}
@@ -8,12 +8,10 @@ use lib.Dec.{ltb}
 use borrow.Author.Tests.{ltb-false, le-leb, lt-leb}
 use Rattle.laws.specs.Tests.{pick}
 use Rattle.buffer_pool.specs.declared.slice.Handle as pool
-use Rattle.buffer_pool.specs.declared.buffer_pool.Place as range
 use Rattle.buffer_pool.specs.declared.buffer_pool.Memory.TheVariants.{Pool}
-use Rattle.buffer_pool.specs.declared.buffer_pool.View.{View}
-use Rattle.buffer_pool.specs.declared.lent.Reserving.{Reserving}
-use Rattle.buffer_pool.specs.declared.lent.Taking.{Taking}
 use Rattle.buffer_pool.specs.declared.buffer_pool.BufferPool.{BufferPool}
+use Rattle.buffer_pool.specs.declared.refusals.Refusal.{Refusal}
+use Rattle.buffer_pool.specs.declared.refusals.Refusal.TheVariants.{Unsound, WrongLength, NotLive}
 use Rattle.buffer_pool.specs.Record.{most_slots, caller_count}
 use Rattle.buffer_pool.specs.Moves.{Memories}
 use Rattle.buffer_pool.specs.Soundness.{sound}
@@ -23,25 +21,10 @@ use Rattle.buffer_pool.specs.Calls.{outcome, misfit, guarded, shown, hidden}
 use Rattle.buffer_pool.proofs.Parts.{count_bounds}
 use Rattle.buffer_pool.proofs.Soundness.{sound_use}
 use Rattle.buffer_pool.proofs.Named.{names_use}
-use Rattle.buffer_pool_c.specs.declared.results.Place.{Place}
+use Rattle.buffer_pool.specs.Values.{View, view_place, view_refusal}
 use Rattle.buffer_pool_c.specs.declared.results.Handle.{Handle}
-use Rattle.buffer_pool_c.specs.Results.{memory_number, place_of, handle_of, reserve_gives, take_gives, view_result, named, byte_or, in_bytes}
-
-pub place_as : (p : range.Place) (n : ℕ) → n ≡ memory_number p.memory → record { start = p.start; length = p.length; memory = n } ≡ place_of p
-place_as p n e = rw e refl
-
-pub reserve_result_as : (c : Reserving) (q : Place) → q ≡ place_of c.view.place → record { place = q; changes = c.changes; refusal = c.view.number } ≡ reserve_gives c
-reserve_result_as c q e = rw e refl
-
-pub take_result_as : (c : Taking) (h : Handle) → h ≡ handle_of c.handle → record { handle = h; copied = c.copied; refusal = c.number } ≡ take_gives c
-take_result_as c h e = rw e refl
-
-pub view_result_as : (v : View) (q : Place) → q ≡ place_of v.place → record { place = q; refusal = v.number } ≡ view_result v
-view_result_as v q e = rw e refl
-
-pub named_as : (h : Handle) (slot : ℕ) → slot ≡ byte_or 0 h.slot → (caller : ℕ) → caller ≡ byte_or 255 h.caller
-    → record { slot = slot; start = h.start; length = h.length; serial = h.serial; caller = caller } ≡ named (in_bytes h)
-named_as h slot e caller f = rw (e, f) refl
+use Rattle.buffer_pool_c.specs.declared.results.Place.{Place}
+use Rattle.buffer_pool_c.specs.Results.{named, in_bytes, byte_or, place_of, view_result}
 
 -- ---- A slot or a caller that has no byte
 
@@ -82,22 +65,31 @@ module _ (w : ℕ) (few : w ≤ most_slots) (p : BufferPool) {A : Type 0} (f : p
 
 -- and in a call that is not refused with 1 every slot has a byte: the slot count is 8 or 16
 module _ (w : ℕ) (p : BufferPool) (m : Memories) where
-  count_tested : {A : Type 0} (refuse : ℕ → A) (a b : A) → (w ≤ most_slots → a ≡ b) → guarded w p m refuse a ≡ guarded w p m refuse b
+  count_tested : {A : Type 0} (refuse : Refusal → A) (a b : A) → (w ≤ most_slots → a ≡ b) → guarded w p m refuse a ≡ guarded w p m refuse b
   count_tested {A} refuse a b e = go (sound w p) refl
     where
-      go : (s : Bool) → sound w p ≡ s → pick (not s) (refuse 1) (pick (misfit p m) (refuse 2) a) ≡ pick (not s) (refuse 1) (pick (misfit p m) (refuse 2) b)
-      go true s = ap (λ (x : A). pick (misfit p m) (refuse 2) x) (e (count_bounds w (sound_use w p s).orderly.ready.is_count).1)
+      go : (s : Bool) → sound w p ≡ s → pick (not s) (refuse Unsound) (pick (misfit p m) (refuse WrongLength) a) ≡ pick (not s) (refuse Unsound) (pick (misfit p m) (refuse WrongLength) b)
+      go true s = ap (λ (x : A). pick (misfit p m) (refuse WrongLength) x) (e (count_bounds w (sound_use w p s).orderly.ready.is_count).1)
       go false s = refl
 
   module _ (h : Handle) where
     pub released_in_bytes : calls.release w p m (named (in_bytes h)) ≡ calls.release w p m (named h)
     unfolding calls.release release_step
     released_in_bytes =
-        count_tested (λ number. outcome (refused p number) m []) _ _
-        (λ few. in_bytes_lem w few p (λ k. outcome (release_step w p k) m []) (outcome (refused p 7) m []) (λ n e. rw e refl) h)
+        count_tested (λ why. outcome (refused p why) m []) _ _
+        (λ few. in_bytes_lem w few p (λ k. outcome (release_step w p k) m []) (outcome (refused p NotLive) m []) (λ n e. rw e refl) h)
 
     pub viewed_in_bytes : calls.slice_view w p m (named (in_bytes h)) ≡ calls.slice_view w p m (named h)
     unfolding calls.slice_view
     viewed_in_bytes =
         count_tested hidden _ _
-        (λ few. in_bytes_lem w few p (λ k. pick (names w p k) (shown (at Pool k.start k.length)) (hidden 7)) (hidden 7) (λ n e. rw e refl) h)
+        (λ few. in_bytes_lem w few p (λ k. pick (names w p k) (shown (at Pool k.start k.length)) (hidden NotLive)) (hidden NotLive) (λ n e. rw e refl) h)
+
+-- ---- What the code makes of a handle and of a view
+
+pub named_as : (h : Handle) (slot : ℕ) → slot ≡ byte_or 0 h.slot → (caller : ℕ) → caller ≡ byte_or 255 h.caller
+    → record { slot = slot; start = h.start; length = h.length; serial = h.serial; caller = caller } ≡ named (in_bytes h)
+named_as h slot e caller f = rw (e, f) refl
+
+pub view_result_as : (v : View) (q : Place) → q ≡ place_of (view_place v) → record { place = q; refusal = view_refusal v } ≡ view_result v
+view_result_as v q e = rw e refl

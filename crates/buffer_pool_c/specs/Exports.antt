@@ -1,11 +1,10 @@
 -- The exported calls: result, record and every lent byte are the direct call's (crate buffer_pool, specs/Calls.antt). A record that
 -- is no pool's, by its live word or its mode, is refused with 1. proofs/RefusedKeeps.antt shows that a refused call leaves the record
 -- as C lent it.
-use Rattle.std.specs.Prelude.{List, [], ℕ}
+use Rattle.std.specs.Prelude.{Err, List, [], ℕ}
 use Rattle.laws.specs.Tests.{pick}
-use Rattle.buffer_pool.specs.declared.buffer_pool.Answer.{Answer}
-use Rattle.buffer_pool.specs.declared.buffer_pool.Answer.TheVariants.{Refused}
-use Rattle.buffer_pool.specs.declared.buffer_pool.View.{View}
+use Rattle.buffer_pool.specs.Values.{Response, View}
+use Rattle.buffer_pool.specs.declared.refusals.Refusal.TheVariants as refusals
 use Rattle.buffer_pool.specs.Moves.{Memories}
 use Rattle.buffer_pool.specs.Calls as calls
 use Rattle.buffer_pool.specs.Calls.{Outcome}
@@ -28,12 +27,12 @@ abbrev pub left : {A : Type 0} → A → Record → Memories → List ℕ → Le
 left result held memory destination = record { result = result; held = held; memory = memory; destination = destination }
 
 -- what a direct call on r's pool left, as C sees it
-abbrev pub seen : {A : Type 0} → (Answer → A) → Record → Outcome → Left A
+abbrev pub seen : {A : Type 0} → (Response → A) → Record → Outcome → Left A
 seen result r o = left (result o.call.answer) (record_after r o.call.pool) o.memory o.destination
 
 -- an exported call on a record: refused with 1, or what the direct call left
-abbrev pub exported : {A : Type 0} → (Answer → A) → Record → Memories → List ℕ → Outcome → Left A
-exported result r m destination o = pick (known r) (seen result r o) (left (result (Refused 1)) r m destination)
+abbrev pub exported : {A : Type 0} → (Response → A) → Record → Memories → List ℕ → Outcome → Left A
+exported result r m destination o = pick (known r) (seen result r o) (left (result (Err refusals.Unsound)) r m destination)
 
 -- what a new pool leaves
 abbrev pub newly : Outcome → Left ℕ

@@ -1,14 +1,16 @@
 -- The record as C holds it: the pool's record with its mode as a number.
-use Rattle.std.specs.Prelude.{Bool, ◌&&◌, ℕ, zero, suc, ◌^◌, leb, ltb, eqb}
+use Rattle.std.specs.Prelude.{Result, Ok, Err, Bool, ◌&&◌, ℕ, zero, suc, ◌^◌, leb, ltb}
 use Rattle.laws.specs.Tests.{pick}
 use Rattle.buffer_pool.specs.declared.buffer_pool.BufferPool.{BufferPool}
 use Rattle.buffer_pool.specs.declared.buffer_pool.PoolFront.{PoolFront}
 use Rattle.buffer_pool.specs.declared.buffer_pool.PoolMode.{PoolMode}
 use Rattle.buffer_pool.specs.declared.buffer_pool.PoolMode.TheVariants.{Back, Front, Alloc}
 use Rattle.buffer_pool.specs.declared.numbers.Numbers.{Numbers}
+use Rattle.buffer_pool.specs.declared.lent.Resizing.{Resizing}
+use Rattle.buffer_pool.specs.declared.refusals.Refusal.{Refusal}
 use Rattle.buffer_pool.specs.Record.{most_slots}
+use Rattle.buffer_pool.specs.Numbers.{entries_of, with_entries}
 use Rattle.buffer_pool_c.specs.declared.record.Record.{Record}
-use Rattle.buffer_pool_c.specs.declared.record.Changed.{Changed}
 
 -- is it the number of a mode?
 abbrev pub is_mode : ℕ → Bool
@@ -55,11 +57,11 @@ pool_in mode r =
       overflow = r.overflow;
       slots = r.slots;
       live = r.live;
-      starts = r.starts;
-      lengths = r.lengths;
-      serials = r.serials;
-      callers = r.callers;
-      given = r.given;
+      starts = r.entries.starts;
+      lengths = r.entries.lengths;
+      serials = r.entries.serials;
+      callers = r.entries.callers;
+      given = r.entries.given;
       back_start = r.back_start;
       back_len = r.back_len;
       used = r.used;
@@ -81,11 +83,7 @@ record_in number front p =
       capacity = p.capacity;
       overflow = p.overflow;
       slots = p.slots;
-      starts = p.starts;
-      lengths = p.lengths;
-      serials = p.serials;
-      given = p.given;
-      callers = p.callers;
+      entries = entries_of p;
       live = p.live;
       mode = number;
       back_start = p.back_start;
@@ -140,32 +138,11 @@ numbers_in slots live mode r =
 abbrev pub numbers_of : Record → Numbers
 numbers_of r = numbers_in (slots_of r) (live_of r) (mode_of r.mode (front_held r)) r
 
--- the live word and the number of the mode after a call, by the number of its refusal
-abbrev pub live_after : ℕ → ℕ → ℕ → ℕ
-live_after before live number = pick (eqb number 0) live before
+-- the record that a commit or a truncate stores: "The reservation is spent"
+abbrev pub resized : Record → Result Resizing Refusal → Record
+resized r (Ok x) = record r { raw_len = x.raw_len; cursor = x.cursor; reserved = 0 }
+resized r (Err why) = r
 
-abbrev pub mode_after : ℕ → PoolMode → ℕ → ℕ
-mode_after before mode number = pick (eqb number 0) (mode_number mode) before
-
--- the numbers of a record that a reserve or a take may change, after a call on r that left the numbers n
-abbrev pub changed_in : ℕ → ℕ → PoolFront → Numbers → Changed
-changed_in live mode front n =
-    record {
-      live = live;
-      mode = mode;
-      back_start = n.back_start;
-      back_len = n.back_len;
-      used = n.used;
-      raw_offset = n.raw_offset;
-      raw_len = n.raw_len;
-      front_back_start = front.back_start;
-      front_byte_capacity = front.byte_capacity;
-      front_len = front.len;
-      kept = n.kept;
-      cursor = n.cursor;
-      reserved = n.reserved;
-    }
-
-abbrev pub numbers_after : Record → Numbers → ℕ → Changed
-numbers_after r n number =
-    changed_in (live_after r.live n.live number) (mode_after r.mode n.mode number) (front_of n.mode (front_held r)) n
+-- r with these numbers
+abbrev pub stored : Record → Numbers → Record
+stored r n = record_after r (with_entries n r.entries)

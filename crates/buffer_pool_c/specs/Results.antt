@@ -1,17 +1,16 @@
--- What the exported calls give: the values of the direct call's answer (crate buffer_pool, specs/Values.antt) as numbers of C's. A
+-- What the exported calls give: the values of the direct call's response (crate buffer_pool, specs/Values.antt) as numbers of C's. A
 -- number that the answer does not have is 0.
-use Rattle.std.specs.Prelude.{ℕ, ltb}
+use Rattle.std.specs.Prelude.{ℕ, ltb, Result, Ok, Err}
 use Rattle.laws.specs.Tests.{pick}
 use Rattle.buffer_pool.specs.declared.slice.Handle as pool
 use Rattle.buffer_pool.specs.declared.buffer_pool.Memory.{Memory}
 use Rattle.buffer_pool.specs.declared.buffer_pool.Memory.TheVariants.{Pool, Overflow}
 use Rattle.buffer_pool.specs.declared.buffer_pool.Place as range
-use Rattle.buffer_pool.specs.declared.buffer_pool.Answer.{Answer}
-use Rattle.buffer_pool.specs.Values.{values}
+use Rattle.buffer_pool.specs.Values.{Response, View, view_place, view_refusal, values}
 use Rattle.buffer_pool.specs.Calls.{hidden}
-use Rattle.buffer_pool.specs.declared.buffer_pool.View.{View}
-use Rattle.buffer_pool.specs.declared.lent.Reserving.{Reserving}
-use Rattle.buffer_pool.specs.declared.lent.Taking.{Taking}
+use Rattle.buffer_pool.specs.declared.lent.Resizing.{Resizing}
+use Rattle.buffer_pool.specs.declared.refusals.Refusal.{Refusal}
+use Rattle.buffer_pool.specs.declared.refusals.Refusal.TheVariants.{Unsound}
 use Rattle.buffer_pool_c.specs.declared.results.Place.{Place}
 use Rattle.buffer_pool_c.specs.declared.results.Handle.{Handle}
 use Rattle.buffer_pool_c.specs.declared.results.ReserveResult.{ReserveResult}
@@ -32,28 +31,28 @@ abbrev pub handle_of : pool.Handle → Handle
 handle_of h = record { start = h.start; length = h.length; serial = h.serial; slot = h.slot; caller = h.caller }
 
 -- what a reserve gives
-abbrev pub reserve_result : Answer → ReserveResult
+abbrev pub reserve_result : Response → ReserveResult
 reserve_result a = record { place = place_of (values a).place; changes = (values a).changes; refusal = (values a).number }
 
 -- what a commit or a truncate gives
-abbrev pub place_result : Answer → PlaceResult
+abbrev pub place_result : Response → PlaceResult
 place_result a = record { place = place_of (values a).place; refusal = (values a).number }
 
 -- what a take gives
-abbrev pub take_result : Answer → TakeResult
+abbrev pub take_result : Response → TakeResult
 take_result a = record { handle = handle_of (values a).handle; copied = (values a).length; refusal = (values a).number }
 
 -- what new and a release give: the refusal alone
-abbrev pub refusal_result : Answer → ℕ
+abbrev pub refusal_result : Response → ℕ
 refusal_result a = (values a).number
 
 -- what a view gives
 abbrev pub view_result : View → PlaceResult
-view_result v = record { place = place_of v.place; refusal = v.number }
+view_result v = record { place = place_of (view_place v); refusal = view_refusal v }
 
 -- what a view of a record gives that is no pool's: refused with 1
 abbrev pub unknown_view : PlaceResult
-unknown_view = view_result (hidden 1)
+unknown_view = view_result (hidden Unsound)
 
 -- the pool's own handle
 abbrev pub named : Handle → pool.Handle
@@ -61,12 +60,10 @@ named h = record { slot = h.slot; start = h.start; length = h.length; serial = h
 
 -- ---- What the code passes on to the pool, and what it makes of what the pool gives. No exported call's contract speaks of it
 
--- what a reserve and a take give, of the numbers that the pool gives (crate buffer_pool, specs/Lent.antt)
-abbrev pub reserve_gives : Reserving → ReserveResult
-reserve_gives c = record { place = place_of c.view.place; changes = c.changes; refusal = c.view.number }
-
-abbrev pub take_gives : Taking → TakeResult
-take_gives c = record { handle = handle_of c.handle; copied = c.copied; refusal = c.number }
+-- what a commit or a truncate gives, of what the pool's gives
+abbrev pub resize_result : Result Resizing Refusal → PlaceResult
+resize_result (Ok x) = view_result (Ok x.place)
+resize_result (Err why) = view_result (Err why)
 
 -- the number in a byte, and `other` for one that has none
 abbrev pub byte_or : ℕ → ℕ → ℕ

@@ -2,22 +2,20 @@
 ghost use Rattle.std.specs.Prelude.{◌≡◌};
 ghost use Rattle.buffer_pool_c.specs.Record as spec;
 
-use buffer_pool::buffer_pool::{BufferPool, PoolFront, PoolMode};
+use buffer_pool::buffer_pool::{BufferPool, Entries, PoolFront, PoolMode};
+use buffer_pool::lent::Resizing;
 use buffer_pool::numbers::Numbers;
+use buffer_pool::refusals::Refusal;
 
-// `buffer_pool_record`: the fields of the pool's record, its mode as a number and the front's three numbers beside it. It has no
-// padding: `live` and `mode` fill one word.
+// `buffer_pool_record`: the fields of the pool's record, its mode as a number and the front's three numbers beside it, which C has no
+// enum for. It has no padding: `live` and `mode` fill one word.
 #[repr(C)]
 #[derive(Clone, Copy)]
 pub struct Record {
     pub capacity: u64,
     pub overflow: u64,
     pub slots: usize,
-    pub starts: [u32; BufferPool::MOST_SLOTS],
-    pub lengths: [u32; BufferPool::MOST_SLOTS],
-    pub serials: [u32; BufferPool::MOST_SLOTS],
-    pub given: [u32; BufferPool::CALLERS],
-    pub callers: [u8; BufferPool::MOST_SLOTS],
+    pub entries: Entries,
     pub live: u32,
     pub mode: u32,
     pub back_start: usize,
@@ -37,20 +35,18 @@ pub struct Record {
 // soundness test, which refuses with 1 as well.
 const LIVE_LIMIT: u32 = 1 << BufferPool::MOST_SLOTS;
 
-// The mode with this number; for a number that is none, the overflow.
+// The mode with this number; for a number that is none, the overflow. No `From`: neither type is of this crate.
 fn mode_of(number: u32, front: PoolFront) -> PoolMode
     ensures { result ≡ spec.mode_of number front }
 {
-    if number == 0 {
-        return PoolMode::Back;
+    match number {
+        0 => PoolMode::Back,
+        1 => PoolMode::Front(front),
+        _ => PoolMode::Alloc,
     }
-    if number == 1 {
-        return PoolMode::Front(front);
-    }
-    PoolMode::Alloc
 }
 
-// The number of a mode.
+// The number of a mode, for C.
 fn mode_number(mode: PoolMode) -> u32
     ensures { result ≡ spec.mode_number mode }
 {
@@ -61,183 +57,141 @@ fn mode_number(mode: PoolMode) -> u32
     }
 }
 
-// No front: all 0.
-pub(crate) fn no_front() -> PoolFront
-    ensures { result ≡ spec.no_front }
-{
-    PoolFront {
-        back_start: 0,
-        byte_capacity: 0,
-        len: 0,
-    }
-}
-
-// The numbers of a front that a record holds.
-fn front_held(r: Record) -> PoolFront
-    ensures { result ≡ spec.front_held r }
-{
-    PoolFront {
-        back_start: r.front_back_start,
-        byte_capacity: r.front_byte_capacity,
-        len: r.front_len,
-    }
-}
-
 // The numbers of a front; in the other modes, those that stood there before.
 fn front_of(mode: PoolMode, before: PoolFront) -> PoolFront
     ensures { result ≡ spec.front_of mode before }
 {
     match mode {
-        PoolMode::Back => before,
         PoolMode::Front(front) => front,
-        PoolMode::Alloc => before,
+        PoolMode::Back | PoolMode::Alloc => before,
     }
 }
 
-// Can the record be a pool's: does its live word fit the pool's 16 bits, and is its mode the number of one?
-fn is_known(r: Record) -> bool
-    ensures { result ≡ spec.known r }
-{
-    if r.live >= LIVE_LIMIT {
-        return false;
+impl Record {
+    // The numbers of a front that the record holds.
+    fn front(&self) -> PoolFront
+        ensures { result ≡ spec.front_held self.now }
+    {
+        PoolFront {
+            back_start: self.front_back_start,
+            byte_capacity: self.front_byte_capacity,
+            len: self.front_len,
+        }
     }
-    r.mode <= 2
-}
 
-// The slot count of a pool's record, and 0 of any other, which is no pool's count: every call refuses it with 1.
-fn slots_of(r: Record) -> usize
-    ensures { result ≡ spec.slots_of r }
-{
-    if is_known(r) {
-        return r.slots;
+    // Can the record be a pool's: does its live word fit the pool's 16 bits, and is its mode the number of one?
+    fn is_known(&self) -> bool
+        ensures { result ≡ spec.known self.now }
+    {
+        self.live < LIVE_LIMIT && self.mode <= 2
     }
-    0
-}
 
-// The live slots of a pool's record.
-fn live_of(r: Record) -> u16
-    ensures { result ≡ spec.live_of r }
-{
-    if r.live >= LIVE_LIMIT {
-        return 0;
+    // The slot count of a pool's record, and 0 of any other, which is no pool's count: every call refuses it with 1.
+    fn slots_known(&self) -> usize
+        ensures { result ≡ spec.slots_of self.now }
+    {
+        if self.is_known() { self.slots } else { 0 }
     }
-    r.live as u16
-}
 
-// The numbers of the pool's record.
-pub(crate) fn numbers_of(r: Record) -> Numbers
-    ensures { result ≡ spec.numbers_of r }
-{
-    Numbers {
-        capacity: r.capacity,
-        overflow: r.overflow,
-        slots: slots_of(r),
-        live: live_of(r),
-        back_start: r.back_start,
-        back_len: r.back_len,
-        used: r.used,
-        raw_offset: r.raw_offset,
-        raw_len: r.raw_len,
-        mode: mode_of(r.mode, front_held(r)),
-        kept: r.kept,
-        cursor: r.cursor,
-        reserved: r.reserved,
+    // The live slots of a pool's record.
+    fn live_slots(&self) -> u16
+        ensures { result ≡ spec.live_of self.now }
+    {
+        if self.live < LIVE_LIMIT {
+            self.live as u16
+        } else {
+            0
+        }
     }
-}
 
-// The live word after a call with this number of its refusal: a refused call leaves it.
-pub(crate) fn live_after(before: u32, live: u16, number: u8) -> u32
-    ensures { result ≡ spec.live_after before live number }
-{
-    if number != 0 {
-        return before;
+    // The numbers of the pool's record.
+    pub(crate) fn numbers(&self) -> Numbers
+        ensures { result ≡ spec.numbers_of self.now }
+    {
+        Numbers {
+            capacity: self.capacity,
+            overflow: self.overflow,
+            slots: self.slots_known(),
+            live: self.live_slots(),
+            back_start: self.back_start,
+            back_len: self.back_len,
+            used: self.used,
+            raw_offset: self.raw_offset,
+            raw_len: self.raw_len,
+            mode: mode_of(self.mode, self.front()),
+            kept: self.kept,
+            cursor: self.cursor,
+            reserved: self.reserved,
+        }
     }
-    live as u32
-}
 
-// The number of the mode after a call, likewise.
-fn mode_after(before: u32, mode: PoolMode, number: u8) -> u32
-    ensures { result ≡ spec.mode_after before mode number }
-{
-    if number != 0 {
-        return before;
+    // A commit or a truncate that is done stores the frame's length and spends the reservation; a refused one stores nothing.
+    pub(crate) fn resize(&mut self, resizing: Result<Resizing, Refusal>)
+        ensures { self.new ≡ spec.resized self.old resizing }
+    {
+        if let Ok(r) = resizing {
+            self.raw_len = r.raw_len;
+            self.cursor = r.cursor;
+            self.reserved = 0;
+        }
     }
-    mode_number(mode)
-}
 
-// The numbers of a record that a reserve or a take may change, as C holds them.
-#[derive(Clone, Copy)]
-pub struct Changed {
-    pub live: u32,
-    pub mode: u32,
-    pub back_start: usize,
-    pub back_len: usize,
-    pub used: usize,
-    pub raw_offset: u64,
-    pub raw_len: u64,
-    pub front_back_start: usize,
-    pub front_byte_capacity: u64,
-    pub front_len: usize,
-    pub kept: u64,
-    pub cursor: u64,
-    pub reserved: u64,
-}
-
-// Those numbers after a call on `r` that left the numbers `n`, with this number of its refusal.
-pub(crate) fn numbers_after(r: Record, n: Numbers, number: u8) -> Changed
-    ensures { result ≡ spec.numbers_after r n number }
-{
-    let mode = n.mode;
-    let front = front_of(mode, front_held(r));
-    Changed {
-        live: live_after(r.live, n.live, number),
-        mode: mode_after(r.mode, mode, number),
-        back_start: n.back_start,
-        back_len: n.back_len,
-        used: n.used,
-        raw_offset: n.raw_offset,
-        raw_len: n.raw_len,
-        front_back_start: front.back_start,
-        front_byte_capacity: front.byte_capacity,
-        front_len: front.len,
-        kept: n.kept,
-        cursor: n.cursor,
-        reserved: n.reserved,
+    // The numbers that a call left become the record's.
+    pub(crate) fn store(&mut self, n: Numbers)
+        ensures { self.new ≡ spec.stored self.old n }
+    {
+        let front = front_of(n.mode, self.front());
+        self.capacity = n.capacity;
+        self.overflow = n.overflow;
+        self.slots = n.slots;
+        self.live = n.live as u32;
+        self.mode = mode_number(n.mode);
+        self.back_start = n.back_start;
+        self.back_len = n.back_len;
+        self.used = n.used;
+        self.raw_offset = n.raw_offset;
+        self.raw_len = n.raw_len;
+        self.front_back_start = front.back_start;
+        self.front_byte_capacity = front.byte_capacity;
+        self.front_len = front.len;
+        self.kept = n.kept;
+        self.cursor = n.cursor;
+        self.reserved = n.reserved;
     }
 }
 
-// The record that C holds of a pool, with these numbers of a front before.
-pub(crate) fn record_of(before: PoolFront, p: BufferPool) -> Record
-    ensures { result ≡ spec.record_of before p }
-{
-    let starts = p.starts;
-    let lengths = p.lengths;
-    let serials = p.serials;
-    let callers = p.callers;
-    let given = p.given;
-    let mode = p.mode;
-    let front = front_of(mode, before);
-    Record {
-        capacity: p.capacity,
-        overflow: p.overflow,
-        slots: p.slots,
-        starts: starts,
-        lengths: lengths,
-        serials: serials,
-        given: given,
-        callers: callers,
-        live: p.live as u32,
-        mode: mode_number(mode),
-        back_start: p.back_start,
-        back_len: p.back_len,
-        used: p.used,
-        raw_offset: p.raw_offset,
-        raw_len: p.raw_len,
-        front_back_start: front.back_start,
-        front_byte_capacity: front.byte_capacity,
-        front_len: front.len,
-        kept: p.kept,
-        cursor: p.cursor,
-        reserved: p.reserved,
+// The record that C holds of a new pool.
+impl From<BufferPool> for Record {
+    fn from(p: BufferPool) -> Self
+        ensures { result ≡ spec.record_of spec.no_front p }
+    {
+        let mode = p.mode;
+        let front = front_of(
+            mode,
+            PoolFront {
+                back_start: 0,
+                byte_capacity: 0,
+                len: 0,
+            },
+        );
+        Record {
+            capacity: p.capacity,
+            overflow: p.overflow,
+            slots: p.slots,
+            entries: p.entries(),
+            live: p.live as u32,
+            mode: mode_number(mode),
+            back_start: p.back_start,
+            back_len: p.back_len,
+            used: p.used,
+            raw_offset: p.raw_offset,
+            raw_len: p.raw_len,
+            front_back_start: front.back_start,
+            front_byte_capacity: front.byte_capacity,
+            front_len: front.len,
+            kept: p.kept,
+            cursor: p.cursor,
+            reserved: p.reserved,
+        }
     }
 }

@@ -1,11 +1,13 @@
 // What the exported calls give: structs of numbers without padding, so that every byte is one of a number. A refused call gives its
 // refusal's number, and 0 for every other number.
-ghost use Rattle.std.specs.Prelude.{◌≡◌};
+ghost use Rattle.std.specs.Prelude.{◌≡◌, Ok, Err};
+ghost use Rattle.buffer_pool.specs.declared.buffer_pool.Answer.TheVariants.{Reserved, Taken, Copied};
 ghost use Rattle.buffer_pool_c.specs.Results as spec;
 
-use buffer_pool::buffer_pool::{Memory, View};
-use buffer_pool::lent::{Reserving, Taking};
-use buffer_pool::slice;
+use buffer_pool::buffer_pool::Memory;
+use buffer_pool::lent::Resizing;
+use buffer_pool::refusals::Refusal;
+use buffer_pool::{buffer_pool as pool, slice};
 
 // `buffer_pool_place`: a range of one memory, 0 the pool memory and 1 the overflow.
 #[repr(C)]
@@ -53,7 +55,7 @@ pub struct TakeResult {
     pub refusal: u64,
 }
 
-// The number of a memory.
+// The number of a memory, for C. No `From`: neither type is of this crate.
 fn memory_number(memory: Memory) -> u64
     ensures { result ≡ spec.memory_number memory }
 {
@@ -63,61 +65,31 @@ fn memory_number(memory: Memory) -> u64
     }
 }
 
-// A place, its memory as a number.
-pub(crate) fn numbered(p: buffer_pool::buffer_pool::Place) -> Place
-    ensures { result ≡ spec.place_of p }
-{
-    let memory = p.memory;
-    Place {
-        start: p.start,
-        length: p.length,
-        memory: memory_number(memory),
+// A place of the pool's, its memory as a number.
+impl From<pool::Place> for Place {
+    fn from(p: pool::Place) -> Self
+        ensures { result ≡ spec.place_of p }
+    {
+        Place {
+            start: p.start,
+            length: p.length,
+            memory: memory_number(p.memory),
+        }
     }
 }
 
 // The pool's own handle, for C.
-fn given_handle(h: slice::Handle) -> Handle
-    ensures { result ≡ spec.handle_of h }
-{
-    Handle {
-        start: h.start,
-        length: h.length,
-        serial: h.serial,
-        slot: h.slot as u16,
-        caller: h.caller as u16,
-    }
-}
-
-// What a reserve gives.
-pub(crate) fn reserve_result(c: Reserving) -> ReserveResult
-    ensures { result ≡ spec.reserve_gives c }
-{
-    let v = c.view;
-    ReserveResult {
-        place: numbered(v.place),
-        changes: c.changes as u64,
-        refusal: v.number as u64,
-    }
-}
-
-// What a take gives.
-pub(crate) fn take_result(c: Taking) -> TakeResult
-    ensures { result ≡ spec.take_gives c }
-{
-    TakeResult {
-        handle: given_handle(c.handle),
-        copied: c.copied,
-        refusal: c.number as u64,
-    }
-}
-
-// What a commit, a truncate or a view gives.
-pub(crate) fn view_result(v: View) -> PlaceResult
-    ensures { result ≡ spec.view_result v }
-{
-    PlaceResult {
-        place: numbered(v.place),
-        refusal: v.number as u64,
+impl From<slice::Handle> for Handle {
+    fn from(h: slice::Handle) -> Self
+        ensures { result ≡ spec.handle_of h }
+    {
+        Handle {
+            start: h.start,
+            length: h.length,
+            serial: h.serial,
+            slot: h.slot as u16,
+            caller: h.caller as u16,
+        }
     }
 }
 
@@ -125,22 +97,118 @@ pub(crate) fn view_result(v: View) -> PlaceResult
 fn byte_or(other: u8, number: u16) -> u8
     ensures { result ≡ spec.byte_or other number }
 {
-    if number < 256 {
-        return number as u8;
-    }
-    other
+    if number < 256 { number as u8 } else { other }
 }
 
-// The pool's own handle, with its slot and its caller in a byte each. A slot that has no byte becomes 0, which is no slot either, and
-// a caller 255, which is no caller either.
-pub(crate) fn named(h: Handle) -> slice::Handle
-    ensures { result ≡ spec.named (spec.in_bytes h) }
+// C's handle as the pool's own, with its slot and its caller in a byte each. A slot that has no byte becomes 0, which is no slot either,
+// and a caller 255, which is no caller either.
+impl From<Handle> for slice::Handle {
+    fn from(h: Handle) -> Self
+        ensures { result ≡ spec.named (spec.in_bytes h) }
+    {
+        slice::Handle {
+            slot: byte_or(0, h.slot),
+            start: h.start,
+            length: h.length,
+            serial: h.serial,
+            caller: byte_or(255, h.caller),
+        }
+    }
+}
+
+// No place: the empty one at the pool memory's start.
+const NO_PLACE: Place = Place {
+    start: 0,
+    length: 0,
+    memory: 0,
+};
+
+// No handle: that of no slot.
+const NO_HANDLE: Handle = Handle {
+    start: 0,
+    length: 0,
+    serial: 0,
+    slot: 0,
+    caller: 0,
+};
+
+// A commit's or a truncate's frame.
+pub(crate) fn resized(resizing: Result<Resizing, Refusal>) -> PlaceResult
+    ensures { result ≡ spec.resize_result resizing }
 {
-    slice::Handle {
-        slot: byte_or(0, h.slot),
-        start: h.start,
-        length: h.length,
-        serial: h.serial,
-        caller: byte_or(255, h.caller),
+    match resizing {
+        Ok(r) => view_result(Ok(r.place)),
+        Err(why) => view_result(Err(why)),
+    }
+}
+
+// A reserve's reservation.
+pub(crate) fn reserved(place: pool::Place, changes: u32) -> ReserveResult
+    ensures { result ≡ spec.reserve_result (Ok (Reserved place changes)) }
+{
+    ReserveResult {
+        place: Place::from(place),
+        changes: changes as u64,
+        refusal: 0,
+    }
+}
+
+// A refused reserve.
+pub(crate) fn reserve_refused(why: Refusal) -> ReserveResult
+    ensures { result ≡ spec.reserve_result (Err why) }
+{
+    ReserveResult {
+        place: NO_PLACE,
+        changes: 0,
+        refusal: why.number() as u64,
+    }
+}
+
+// What a view gives, and with the frame as place a commit or a truncate.
+pub(crate) fn view_result(view: Result<pool::Place, Refusal>) -> PlaceResult
+    ensures { result ≡ spec.view_result view }
+{
+    match view {
+        Ok(place) => PlaceResult {
+            place: Place::from(place),
+            refusal: 0,
+        },
+        Err(why) => PlaceResult {
+            place: NO_PLACE,
+            refusal: why.number() as u64,
+        },
+    }
+}
+
+// A take that gave a slice of the pool.
+pub(crate) fn taken(handle: slice::Handle) -> TakeResult
+    ensures { result ≡ spec.take_result (Ok (Taken handle)) }
+{
+    TakeResult {
+        handle: Handle::from(handle),
+        copied: 0,
+        refusal: 0,
+    }
+}
+
+// A take that copied so many bytes.
+pub(crate) fn copied(length: u64) -> TakeResult
+    ensures { result ≡ spec.take_result (Ok (Copied length)) }
+{
+    TakeResult {
+        handle: NO_HANDLE,
+        copied: length,
+        refusal: 0,
+    }
+}
+
+// A refused take.
+pub(crate) fn take_refused(why: Refusal) -> TakeResult
+    ensures { result ≡ spec.take_result (Err why) }
+{
+    TakeResult {
+        handle: NO_HANDLE,
+        copied: 0,
+        refusal: why.number() as u64,
     }
 }

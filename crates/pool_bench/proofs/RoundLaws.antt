@@ -1,7 +1,7 @@
 -- The rounds, from what the code knows where it returns. Assumes nothing.
 use mathlib.Core.Path.{◌≡◌, ap, ◌∙◌}
 use mathlib.Core.List.{List, []}
-use Prim.Native.Nat.{ℕ, zero, suc, ◌-◌, ◌≤◌, ◌<◌}
+use Prim.Native.Nat.{ℕ, suc, ◌+◌, ◌-◌, ◌≤◌, ◌<◌}
 use native.Mathlib.Omega.{arith}
 use lib.ListN.{get_or}
 use Rattle.buffer_pool.specs.declared.slice.Handle.{Handle}
@@ -35,18 +35,19 @@ round_as p m d len q n e s f = f ∙ ap (λ (x : State). finished (state x.held 
 
 -- ---- The loop: what is left to do decides
 
-pub round_less : (len left : ℕ) (s t total : State) → 0 < left → rounds len left s ≡ total → t ≡ finished (gathered len s) → rounds len (left - 1) t ≡ total
+pub round_less : (len k i : ℕ) (s t total : State) → i < k → rounds len (k - i) s ≡ total → t ≡ finished (gathered len s) → rounds len (k - (i + 1)) t ≡ total
 unfolding rounds
-round_less len zero s t total h a e = absurd (omega arith)
-round_less len (suc n) s t total h a e = let k : suc n - 1 ≡ n = omega arith in ap (λ (j : ℕ). rounds len j t) k ∙ ap (rounds len n) e ∙ a
+round_less len k i s t total h a e =
+    let one : suc (k - (i + 1)) ≡ k - i = omega arith in
+    ap (rounds len (k - (i + 1))) e ∙ ap (λ (j : ℕ). rounds len j s) one ∙ a
 
 -- none is left: the pool is as after all rounds on a new pool
-module _ (m n : Memories) (d : List ℕ) (len k left : ℕ) (a : Called) (e : outcome a n [] ≡ new rust_slots m) (p : BufferPool) (q : Memories) (c : List ℕ)
-    (r : rounds len left (state p q c) ≡ rounds len k (state a.pool n d)) (z : left ≤ 0) where
+module _ (m n : Memories) (d : List ℕ) (len k i : ℕ) (a : Called) (e : outcome a n [] ≡ new rust_slots m) (p : BufferPool) (q : Memories) (c : List ℕ)
+    (r : rounds len (k - i) (state p q c) ≡ rounds len k (state a.pool n d)) (z : k ≤ i) where
   ended : state p q c ≡ rounds len k (started m d)
   unfolding rounds started
   ended =
-      let none : 0 ≡ left = omega arith in
+      let none : 0 ≡ k - i = omega arith in
       ap (λ (j : ℕ). rounds len j (state p q c)) none ∙ r
       ∙ ap (λ (o : Outcome). rounds len k (state o.call.pool o.memory d)) e
 

@@ -8,6 +8,9 @@ ghost use Rattle.pool_bench.specs.Rounds as spec;
 
 use buffer_pool::buffer_pool::BufferPool;
 
+// The record goes by value beside its lent memories, as every call of the pool takes it: a struct of all of them would be taken apart
+// again for each call.
+
 // A frame of `len` bytes: reserve and commit.
 fn gathered(p: BufferPool, pool: &mut [u8], overflow: &mut [u8], len: u64) -> BufferPool
     ensures { spec.state result (memories pool.new overflow.new) [] ≡ spec.gathered len (spec.state p (memories pool.old overflow.old) []) }
@@ -23,9 +26,8 @@ fn finished(p: BufferPool, pool: &[u8], overflow: &mut [u8], destination: &mut [
     ensures { spec.state result (memories pool.now overflow.new) destination.new ≡ spec.finished (spec.state p (memories pool.now overflow.old) destination.old) }
 {
     let took = p.take(pool, overflow, 0, destination);
-    let answer = took.answer;
     let q = took.pool;
-    let released = q.release(pool, overflow, answer.handle());
+    let released = q.release(pool, overflow, took.handle());
     released.pool
 }
 
@@ -57,11 +59,8 @@ pub extern "C" fn pool_bench_rounds(
 {
     let made = BufferPool::new(BufferPool::POOL_CAPACITY, pool, overflow);
     let mut p = made.pool;
-    let mut left = rounds;
-    while 0 < left {
+    for _ in 0..rounds {
         p = round(p, pool, overflow, destination, len);
-        left -= 1;
     }
-    let given = p.given;
-    given[0]
+    p.given[0]
 }

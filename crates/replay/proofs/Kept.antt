@@ -5,7 +5,7 @@ use mathlib.Core.Bool.{true, not, ◌&&◌, ◌||◌}
 use mathlib.Core.List.{List, []}
 use Prim.Native.Nat.{ℕ, ◌+◌, ◌-◌, ◌≤◌, ◌<◌, ◌^◌}
 use native.Mathlib.Omega.{arith}
-use borrow.Author.Tests.{ltb-false}
+use borrow.Author.Tests.{ltb-false, eq-eqb, le-leb}
 use lib.Dec.{ltb, eqb}
 use lib.ListN.{length}
 use Rattle.laws.proofs.Tests.{pick_cases, either_false}
@@ -14,6 +14,7 @@ use Rattle.buffer_pool.specs.declared.buffer_pool.BufferPool.{BufferPool}
 use Rattle.buffer_pool.specs.declared.buffer_pool.PoolMode.{PoolMode}
 use Rattle.buffer_pool.specs.declared.buffer_pool.PoolMode.TheVariants.{Back, Front, Alloc}
 use Rattle.buffer_pool.specs.declared.buffer_pool.Called.{Called}
+use Rattle.buffer_pool.specs.declared.refusals.Refusal.TheVariants.{Unsound, WrongLength}
 use Rattle.buffer_pool.specs.Record.{rust_slots, byte_limit}
 use Rattle.buffer_pool.specs.Values.{Values}
 use Rattle.buffer_pool.specs.Moves.{Memories}
@@ -29,12 +30,12 @@ use Rattle.trace.specs.declared.Event.{Event}
 use Rattle.replay.specs.declared.event.Tally.{Tally}
 use Rattle.replay.specs.declared.event.Starts.{Starts}
 use Rattle.replay.specs.Slots.{handle_of}
-use Rattle.replay.specs.Run.{counted, Within, in_pool, starts, starts_of, shown_of, fills, filling, call_of, Running, step_of, step}
+use Rattle.replay.specs.Run.{counted, Within, in_pool, starts, starts_of, shown_so, shown_of, fills, filling, call_of, Running, step_of, step}
 
 -- ---- The record stays sound
 
 -- what holds of a call refused with 1 or 2, and of each call's step, holds of an event's call
-module _ (r : BufferPool) (m : Memories) (P : Called → Type 0) (one : P (refused r 1)) (two : P (refused r 2)) where
+module _ (r : BufferPool) (m : Memories) (P : Called → Type 0) (one : P (refused r Unsound)) (two : P (refused r WrongLength)) where
   guarded_by : (d : List ℕ) (o : Outcome) → P o.call → P (guarded_call r.slots r m d o).call
   guarded_by d o h =
       pick_cases (λ (x : Outcome). P x.call) (not (sound r.slots r)) (λ t. one)
@@ -97,6 +98,11 @@ starts_within w n kind r q e f a b =
 
 -- ---- Trace bytes, and counts
 
+-- a commit that is not refused fills as many bytes as it commits, if there are as many left
+pub filling_whole : (r : BufferPool) (e : Event) (left : ℕ) → e.kind ≡ 2 → e.number ≤ r.reserved → e.number ≤ left → e.number ≡ filling r e left
+unfolding filling fills
+filling_whole r e left k h l = rw (eq-eqb e.kind 2 k, le-leb e.number r.reserved h) (omega arith)
+
 filling_left : (r : BufferPool) (e : Event) (left : ℕ) → filling r e left ≤ left
 unfolding filling
 filling_left r e left = pick_cases (λ (k : ℕ). k ≤ left) (fills r e) (λ t. omega arith) (λ t. omega arith)
@@ -113,14 +119,14 @@ module _ (bytes : List ℕ) (s : Running) (e : Event) where
   step_sound w h = call_sound w s.state.pool _ s.destination e (handle_of s.state.pool e.caller e.number) h
 
   pub step_starts : (w : ℕ) → sound w s.state.pool ≡ true → Starting byte_limit (step bytes s e).step.shown.frame
-  unfolding step step_of shown_of
+  unfolding step step_of shown_of shown_so
   step_starts w h =
       let k = step_sound w h in
       starts_within w byte_limit e.kind s.state.pool _ h k (sound_use w _ h).capacity_limit (sound_use w _ k).capacity_limit
 
   -- the live word has a bit for each slot
   pub step_live : (w : ℕ) → sound w s.state.pool ≡ true → (step bytes s e).step.shown.live < 2 ^ w
-  unfolding step step_of shown_of
+  unfolding step step_of shown_of shown_so
   step_live w h = (sound_use w _ (step_sound w h)).orderly.ready.slots.live_fits
 
   pub step_next : s.state.next ≤ length bytes → (step bytes s e).step.state.next ≤ length bytes

@@ -15,17 +15,17 @@ use Rattle.buffer_pool.specs.Moves.{Memories, memories}
 use Rattle.buffer_pool.specs.Soundness.{sound}
 use Rattle.buffer_pool.specs.Calls.{Outcome, outcome, new}
 use Rattle.trace.specs.declared.Header.{Header}
-use Rattle.trace.specs.declared.Answer as trace
-use Rattle.trace.specs.declared.Answer.TheVariants.{Trace, BadHeader, BadEvent}
+use Rattle.trace.specs.declared.Refusal.{Refusal}
+use Rattle.std.specs.Prelude.{Result, Ok, Err}
 use Rattle.trace.specs.Trace.{reading, byte_offset}
 use Rattle.trace.specs.Content.{Content, content}
 use Rattle.trace.proofs.Accepted.{accepted_use, headed_use, header_content}
 use Rattle.replay.specs.declared.event.State.{State}
-use Rattle.replay.specs.declared.Answer.TheVariants.{Listed, TooShort}
-use Rattle.replay.specs.Text.{Output, output, wrote}
-use Rattle.replay.specs.Run.{running}
-use Rattle.replay.specs.Listing.{first_line, lines, begun_on, listing_on, zeros, listing_of, refused_nine, refused_ten, listing_by, listing, replayed, delivered}
-use Rattle.replay.proofs.TextLaws.{sets_past, after}
+use Rattle.replay.specs.declared.text.Writer.{Writer}
+use Rattle.replay.specs.Text.{Output, output, wrote, Writes}
+use Rattle.replay.specs.Run.{Running, running}
+use Rattle.replay.specs.Listing.{first_line, lines, begun_on, listing_on, zeros, listing_of, refused, listing_by, listing, replayed, delivered}
+use Rattle.replay.proofs.TextLaws.{sets_past, joined}
 use Rattle.replay.proofs.Kept.{new_sound}
 
 -- ---- The run from a new pool
@@ -42,12 +42,10 @@ module _ (m n : Memories) (c : Called) (q : outcome c n [] ≡ new rust_slots m)
   unfolding begun_on
   fresh_begun d = ap (λ (o : Outcome). running (fresh o.call.pool) o.memory d) q
 
-  pub run_listed : (d bytes : List ℕ) (file : Content) (o p r : Output) → p ≡ wrote o (first_line (length m.pool) (length m.overflow))
-      → bytes ≡ file.bytes → r ≡ wrote p (lines bytes (running (fresh c.pool) n d) 0 file.events) → r ≡ wrote o (listing_on m d file)
+  pub run_listed : (d : List ℕ) (file : Content) {a b e : Writer} → Writes a b (first_line (length m.pool) (length m.overflow))
+      → Writes b e (lines file.bytes (running (fresh c.pool) n d) 0 file.events) → Writes a e (listing_on m d file)
   unfolding listing_on
-  run_listed d bytes file o p r x b y =
-      after o p r _ _ x y
-      ∙ rw (b, fresh_begun d) refl
+  run_listed d file {a} {b} {e} x y = joined x (subst (λ (r : Running). Writes b e (lines file.bytes r 0 file.events)) (fresh_begun d) y)
 
 pub bytes_few : (file bytes : List ℕ) → bytes ≡ (content file).bytes → length bytes ≤ length file
 unfolding content
@@ -60,7 +58,7 @@ take_zeros zero k l = refl
 take_zeros (suc n) zero l = absurd (omega arith)
 take_zeros (suc n) (suc k) l = ap (λ (x : List ℕ). 0 ∷ x) (take_zeros n k (omega arith))
 
-module _ (file : List ℕ) (h : Header) (e : reading file ≡ Trace h) where
+module _ (file : List ℕ) (h : Header) (e : reading file ≡ Ok h) where
   pub trace_capacity : h.capacity ≤ 16384
   trace_capacity = let f = accepted_use file h e in subst (λ (x : Header). x.capacity ≤ 16384) f.2 (headed_use file f.0).capacity_within
 
@@ -77,7 +75,7 @@ module _ (file : List ℕ) (h : Header) (e : reading file ≡ Trace h) where
 pub part_long : (n : ℕ) (z : List ℕ) → 16384 ≡ length z → n ≤ 16384 → n ≡ length (take n z)
 part_long n z e h = sym (length-take-le n z (omega arith))
 
-module _ (file : List ℕ) (h : Header) (e : reading file ≡ Trace h) where
+module _ (file : List ℕ) (h : Header) (e : reading file ≡ Ok h) where
   -- the memories that the code lends
   module _ (z z' z'' : List ℕ) (u : z ≡ zeros) (u' : z' ≡ zeros) (u'' : z'' ≡ zeros) where
     part_zeros : (n : ℕ) → n ≤ 16384 → (l : List ℕ) → l ≡ zeros → take n l ≡ replicate n 0
@@ -91,26 +89,21 @@ module _ (file : List ℕ) (h : Header) (e : reading file ≡ Trace h) where
     trace_listed o r x =
         let c : h.capacity ≡ (content file).capacity = sym (ap (λ (y : Header). y.capacity) (header_content file h e)) in
         let v : h.overflow ≡ (content file).overflow = sym (ap (λ (y : Header). y.overflow) (header_content file h e)) in
-        x
-        ∙ rw (part_zeros h.capacity (trace_capacity file h e) z u, part_zeros h.overflow (trace_overflow file h e) z' u', part_zeros h.overflow (trace_overflow file h e) z'' u'', c, v) refl
+        x ∙ rw (part_zeros h.capacity (trace_capacity file h e) z u, part_zeros h.overflow (trace_overflow file h e) z' u', part_zeros h.overflow (trace_overflow file h e) z'' u'', c, v) refl
 
 -- ---- Every file
 
-module _ (file : List ℕ) (a : trace.Answer) (e : a ≡ reading file) where
-  pub read_trace : (h : Header) → a ≡ Trace h → reading file ≡ Trace h
+module _ (file : List ℕ) (a : Result Header Refusal) (e : a ≡ reading file) where
+  pub read_trace : (h : Header) → a ≡ Ok h → reading file ≡ Ok h
   read_trace h t = sym e ∙ t
 
-  pub listing_trace : (h : Header) → a ≡ Trace h → (o r : Output) → r ≡ wrote o (listing_of (content file)) → r ≡ wrote o (listing file)
+  pub listing_trace : (h : Header) → a ≡ Ok h → (o r : Output) → r ≡ wrote o (listing_of (content file)) → r ≡ wrote o (listing file)
   unfolding listing listing_by
   listing_trace h t o r x = x ∙ rw (← e, t) refl
 
-  pub listing_nine : a ≡ BadHeader → (o r : Output) → r ≡ wrote o refused_nine → r ≡ wrote o (listing file)
+  pub listing_refused : (why : Refusal) → a ≡ Err why → (o r : Output) → r ≡ wrote o (refused why) → r ≡ wrote o (listing file)
   unfolding listing listing_by
-  listing_nine t o r x = x ∙ rw (← e, t) refl
-
-  pub listing_ten : (event : ℕ) → a ≡ BadEvent event → (o r : Output) → r ≡ wrote o (refused_ten event) → r ≡ wrote o (listing file)
-  unfolding listing listing_by
-  listing_ten event t o r x = x ∙ rw (← e, t) refl
+  listing_refused why t o r x = x ∙ rw (← e, t) refl
 
 -- ---- What replay leaves
 
@@ -130,14 +123,14 @@ module _ (text none : List ℕ) (n : ℕ) (e : output n none ≡ wrote (output 0
   unfolding wrote
   nothing_stored = ap (λ (o : Output). o.bytes) e ∙ sets_past text [] 0 (omega arith)
 
-  pub too_short : (out : List ℕ) → length (none ++ out) < n → replayed (TooShort n) (none ++ out) ≡ delivered text out
+  pub too_short : (out : List ℕ) → length (none ++ out) < n → replayed (Err (record { needed = n })) (none ++ out) ≡ delivered text out
   unfolding delivered
   too_short out h =
       rw nothing_stored (rw (← measured text [] none n e, lt-leb n (length out) (rw nothing_stored at h)) refl)
 
   -- the second writes
   pub all_listed : (out new : List ℕ) (k : ℕ) → n ≤ length (none ++ out) → output k new ≡ wrote (output 0 (none ++ out)) text
-      → replayed (Listed n) new ≡ delivered text out
+      → replayed (Ok n) new ≡ delivered text out
   unfolding delivered
   all_listed out new k h w =
       let m = measured text [] none n e in

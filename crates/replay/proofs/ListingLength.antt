@@ -14,8 +14,9 @@ use Rattle.buffer_pool.specs.declared.buffer_pool.BufferPool.{BufferPool}
 use Rattle.buffer_pool.specs.Moves.{Memories}
 use Rattle.trace.specs.declared.Event.{Event}
 use Rattle.trace.specs.declared.Header.{Header}
-use Rattle.trace.specs.declared.Answer as trace
-use Rattle.trace.specs.declared.Answer.TheVariants.{Trace, BadHeader, BadEvent}
+use Rattle.trace.specs.declared.Refusal.{Refusal}
+use Rattle.trace.specs.declared.Refusal.TheVariants.{WrongHeader, BadEvent}
+use Rattle.std.specs.Prelude.{Result, Ok, Err}
 use Rattle.trace.specs.Trace.{size_limit, event_count, reading}
 use Rattle.trace.specs.Content.{Content, content, Callers}
 use Rattle.trace.proofs.Accepted.{accepted_use, accepted_callers, headed_use}
@@ -29,7 +30,7 @@ use Rattle.replay.specs.Text.{hex, signed, spaced, output, wrote}
 use Rattle.replay.specs.Slots.{held}
 use Rattle.replay.specs.Percentage.{percent}
 use Rattle.replay.specs.Run.{Within, Running, left, step}
-use Rattle.replay.specs.Listing.{first_line, move_of, line_head, line, last_line, lines, begun_on, listing_on, listing_of, refused_nine, refused_ten, listing_by, listing, event_limit, first_limit, line_limit, last_limit, listing_limit}
+use Rattle.replay.specs.Listing.{first_line, move_of, line_head, line, last_line, lines, begun_on, listing_on, listing_of, refused_nine, refused_ten, refused, listing_by, listing, event_limit, first_limit, line_limit, last_limit, listing_limit}
 use Rattle.replay.proofs.Digits.{decimal_most, decimal_any}
 use Rattle.replay.proofs.Kept.{Starting, step_within}
 use Rattle.replay.proofs.ListingLaws.{measured, fitted}
@@ -119,7 +120,7 @@ run_length m d c h k l callers =
 -- ---- Every file
 
 -- an accepted file holds sizes within their limit, at most so many events, and no caller above 3
-accepted_length : (file : List ℕ) (h : Header) → reading file ≡ Trace h → length (listing_of (content file)) ≤ listing_limit
+accepted_length : (file : List ℕ) (h : Header) → reading file ≡ Ok h → length (listing_of (content file)) ≤ listing_limit
 unfolding listing_of content
 accepted_length file h e =
     let A = accepted_use file h e in
@@ -129,13 +130,13 @@ accepted_length file h e =
 
 -- the listing of every file fits an output of this length
 pub listing_fits : (file : List ℕ) → length (listing file) ≤ listing_limit
-unfolding listing listing_by refused_nine refused_ten spaced
+unfolding listing listing_by refused refused_nine refused_ten spaced
 listing_fits file = go (reading file) refl
   where
-    go : (a : trace.Answer) → reading file ≡ a → length (listing_by a (content file)) ≤ listing_limit
-    go (Trace h) e = accepted_length file h e
-    go BadHeader e = simp length-append (omega (arith, decimal_any 9))
-    go (BadEvent event) e = simp length-append (omega (arith, decimal_any 10, decimal_any event))
+    go : (a : Result Header Refusal) → reading file ≡ a → length (listing_by a (content file)) ≤ listing_limit
+    go (Ok h) e = accepted_length file h e
+    go (Err WrongHeader) e = simp length-append (omega (arith, decimal_any 9))
+    go (Err (BadEvent event)) e = simp length-append (omega (arith, decimal_any 10, decimal_any event))
 
 -- ---- What `replay_whole` leaves: every listing fits its output
 

@@ -3,7 +3,6 @@
 -- held bytes, which stand one after the other, do not either. Assumes nothing.
 use mathlib.Core.Path.{◌≡◌, refl, sym, subst}
 use mathlib.Core.Bool.{Bool, true, false, ◌||◌}
-use mathlib.Core.Logic.{◌⊎◌, inl, inr}
 use mathlib.Core.List.{List}
 use Prim.Native.Nat.{ℕ, zero, suc, ◌+◌, ◌-◌, ◌≤◌, ◌<◌, min}
 use native.Mathlib.Nat.{le_refl}
@@ -11,6 +10,7 @@ use native.Mathlib.Omega.{arith}
 use borrow.Author.Tests.{ne_eqb, lt-leb}
 use lib.Dec.{leb, ltb, eqb}
 use lib.ListN.{length}
+use Rattle.std.specs.Prelude.{Ok, Err}
 use Rattle.laws.specs.Tests.{pick}
 use Rattle.laws.specs.Lists.{part}
 use Rattle.laws.specs.Live.{live_at}
@@ -19,10 +19,12 @@ use Rattle.buffer_pool.specs.declared.slice.Handle.{Handle}
 use Rattle.buffer_pool.specs.declared.buffer_pool.BufferPool.{BufferPool}
 use Rattle.buffer_pool.specs.declared.buffer_pool.PoolMode.{PoolMode}
 use Rattle.buffer_pool.specs.declared.buffer_pool.PoolMode.TheVariants.{Back, Front, Alloc}
-use Rattle.buffer_pool.specs.declared.buffer_pool.Answer.TheVariants.{Done, Taken, Copied, Refused}
+use Rattle.buffer_pool.specs.declared.buffer_pool.Answer.TheVariants.{Done, Taken, Copied}
 use Rattle.buffer_pool.specs.declared.buffer_pool.Called.{Called}
+use Rattle.buffer_pool.specs.declared.refusals.Refusal.{Refusal}
+use Rattle.buffer_pool.specs.declared.refusals.Refusal.TheVariants.{Unsound, WrongLength, OverflowTooShort, CommitTooLong, DestinationTooShort, NotLive, NoSerials}
 use Rattle.buffer_pool.specs.Record.{rust_slots, byte_limit, caller_count, start_at, after}
-use Rattle.buffer_pool.specs.Values.{no_handle, Values, values}
+use Rattle.buffer_pool.specs.Values.{refusal_number, no_handle, Values, values}
 use Rattle.buffer_pool.specs.Moves.{Memories}
 use Rattle.buffer_pool.specs.Placing.{place, is_too_long}
 use Rattle.buffer_pool.specs.Soundness.{is_slot_count, sound}
@@ -39,8 +41,9 @@ use Rattle.trace.specs.Trace.{size_limit, take_kind, release_kind, most_caller}
 use Rattle.replay.specs.declared.event.Extent.{Extent}
 use Rattle.replay.specs.declared.event.Shown.{Shown}
 use Rattle.replay.specs.Slots.{slot_of, handle_at, handle_of, held_at, held_from, held}
-use Rattle.replay.specs.Run.{extent, take_extent, release_extent, extent_of, shown_of, filling, filled, call_of, Running, step_of, step}
+use Rattle.replay.specs.Run.{extent, take_extent, release_extent, extent_of, shown_so, shown_of, filling, filled, call_of, Running, step_of, step}
 use Rattle.replay.proofs.SlotLaws.{slot_held}
+use Rattle.std.specs.Prelude.{Option, Some, None, IfSome}
 use Rattle.replay.proofs.Kept.{call_by_steps, new_sound, step_sound, Starting, starts_within}
 
 -- ---- The record
@@ -109,15 +112,15 @@ unfolding take_extent
 placed_shows v n p h l = (n, near p, rw (h, l) (omega arith, omega arith))
 
 module _ (r : BufferPool) (S : Small r) where
-  refused_shows : (k : ℕ) → k < 10 → Shows (values (Refused k))
-  refused_shows k l = placed_shows (values (Refused k)) l (omega arith) refl refl
+  refused_shows : (why : Refusal) → refusal_number why < 10 → Shows (values (Err why))
+  refused_shows why l = placed_shows (values (Err why)) l (omega arith) refl refl
 
   reserve_shows : (n : ℕ) → Shows (values (reserve_step r.slots r n).answer)
   unfolding reserve_step reserve_on
   reserve_shows n = go (is_too_long (place r.slots r n) n) (small_kept r (kept.Reserve n) S)
     where
       go : (t : Bool) → Small (reserve_on t r (place r.slots r n)).pool → Shows (values (reserve_on t r (place r.slots r n)).answer)
-      go true Z = refused_shows 4 (omega arith)
+      go true Z = refused_shows OverflowTooShort (omega arith)
       go false Z =
           placed_shows (values (reserve_on false r (place r.slots r n)).answer) (omega arith) (gathered_within (place r.slots r n).next Z) refl refl
 
@@ -131,19 +134,19 @@ module _ (r : BufferPool) (S : Small r) where
       q : BufferPool
       q = resized r.mode r ((frame r).length + n)
 
-      go : (t : Bool) → Small (pick t (refused r 5) (reframed q)).pool → Shows (values (pick t (refused r 5) (reframed q)).answer)
-      go true Z = refused_shows 5 (omega arith)
+      go : (t : Bool) → Small (pick t (refused r CommitTooLong) (reframed q)).pool → Shows (values (pick t (refused r CommitTooLong) (reframed q)).answer)
+      go true Z = refused_shows CommitTooLong (omega arith)
       go false Z = reframed_shows q Z
 
   truncate_shows : (n : ℕ) → Shows (values (truncate_step r n).answer)
   unfolding truncate_step
   truncate_shows n = reframed_shows (resized r.mode r (min (frame r).length n)) (small_kept r (kept.Truncate n) S)
 
-  copied_shows : (n : ℕ) → n ≤ size_limit → Shows (values (Copied n))
+  copied_shows : (n : ℕ) → n ≤ size_limit → Shows (values (Ok (Copied n)))
   unfolding take_extent
   copied_shows n h = (omega arith, near (omega arith), near (omega (arith, h)))
 
-  pooled_shows : (caller : ℕ) → r.raw_offset + r.raw_len ≤ size_limit → Shows (values (Taken (next_handle r caller)))
+  pooled_shows : (caller : ℕ) → r.raw_offset + r.raw_len ≤ size_limit → Shows (values (Ok (Taken (next_handle r caller))))
   unfolding take_extent
   pooled_shows caller h = (omega arith, near (omega arith), rw (ne_eqb (suc r.used) 0 (λ z. omega (arith, z))) (near h))
 
@@ -157,18 +160,18 @@ module _ (r : BufferPool) (S : Small r) where
       go : (z long spent : Bool) (mode : PoolMode) → (frame_of mode r).start + (frame_of mode r).length ≤ size_limit
           → Shows (values (take_on false z long spent mode r.slots caller r).answer)
       go true long spent mode g = copied_shows 0 (omega arith)
-      go false long true Back g = refused_shows 8 (omega arith)
+      go false long true Back g = refused_shows NoSerials (omega arith)
       go false long false Back g = pooled_shows caller g
-      go false long true (Front f) g = refused_shows 8 (omega arith)
+      go false long true (Front f) g = refused_shows NoSerials (omega arith)
       go false long false (Front f) g = pooled_shows caller g
-      go false true spent Alloc g = refused_shows 6 (omega arith)
+      go false true spent Alloc g = refused_shows DestinationTooShort (omega arith)
       go false false spent Alloc g = copied_shows r.cursor (omega arith)
 
   release_shows : (h : Handle) → Shows (values (release_step r.slots r h).answer)
   unfolding release_step
   release_shows h =
-      pick_cases (λ (c : Called). Shows (values c.answer)) (names r.slots r h) (λ e. placed_shows (values Done) (omega arith) (omega arith) refl refl)
-      (λ e. refused_shows 7 (omega arith))
+      pick_cases (λ (c : Called). Shows (values c.answer)) (names r.slots r h) (λ e. placed_shows (values (Ok Done)) (omega arith) (omega arith) refl refl)
+      (λ e. refused_shows NotLive (omega arith))
 
   -- the call of an event leaves such a record, and answers so
   abbrev Good : Called → Type 0
@@ -176,25 +179,25 @@ module _ (r : BufferPool) (S : Small r) where
 
   call_good : (m : Memories) (d : List ℕ) (x : Event) (h : Handle) → x.caller ≤ most_caller → Good (call_of r m d x h).call
   call_good m d x h l =
-      call_by_steps r m Good (S, refused_shows 1 (omega arith)) (S, refused_shows 2 (omega arith)) d x h
+      call_by_steps r m Good (S, refused_shows Unsound (omega arith)) (S, refused_shows WrongLength (omega arith)) d x h
       (λ n. (small_kept r (kept.Reserve n) S, reserve_shows n)) (λ n. (small_kept r (kept.Commit n) S, commit_shows n))
       (λ n. (small_kept r (kept.Truncate n) S, truncate_shows n)) (λ n. (small_kept r (kept.Take x.caller n) S, take_shows x.caller n l))
       (small_kept r (kept.Release h) S, release_shows h)
 
   -- the handle that a caller and a serial give is of a live slot, which lies in the pool, or of none
-  slot_near : (caller serial p : ℕ) → (p ≡ 0) ⊎ Held r.slots r.live p
-      → Near (extent (handle_at r caller serial p).start (handle_at r caller serial p).length)
+  slot_near : (caller serial : ℕ) (o : Option ℕ) → IfSome o (Held r.slots r.live)
+      → Near (extent (handle_at r caller serial o).start (handle_at r caller serial o).length)
   unfolding handle_at
-  slot_near caller serial p (inl z) = rw z (omega arith, omega arith)
-  slot_near caller serial p (inr H) =
+  slot_near caller serial None z = (omega arith, omega arith)
+  slot_near caller serial (Some p) H =
       let some : p ≡ 0 → ⊥ = λ z. omega (arith, z, H.one) in
       let end = end_some r.starts r.lengths p some (start_at r.starts p) (start_at r.lengths p) refl refl in
-      rw (ne_eqb p 0 some) (near (omega (arith, end, (sound_inside r.slots r S.is_sound).slices p H, S.capacity_within)))
+      near (omega (arith, end, (sound_inside r.slots r S.is_sound).slices p H, S.capacity_within))
 
   handle_near : (caller serial : ℕ) → Near (extent (handle_of r caller serial).start (handle_of r caller serial).length)
   unfolding handle_of slot_of
   handle_near caller serial =
-      slot_near caller serial _ (slot_held r.slots r.live r.callers r.serials caller serial r.slots 1 (omega arith) (omega arith))
+      slot_near caller serial _ (slot_held r caller serial r.slots 1 (omega arith) (omega arith))
 
   -- what a line shows
   extent_near : (e : Event) (v : Values) → Shows v → Near (extent_of e.kind (handle_of r e.caller e.number) v)
@@ -231,7 +234,7 @@ module _ (bytes : List ℕ) (s : Running) (e : Event) (S : Small s.state.pool) (
   step_small = good.0
 
   pub step_narrow : Narrow (step bytes s e).step.shown
-  unfolding step step_of shown_of
+  unfolding step step_of shown_of shown_so
   step_narrow =
       let x = extent_near r S e (values c.answer) good.1 in
       record {

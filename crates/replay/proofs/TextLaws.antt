@@ -1,14 +1,15 @@
--- A text put after another is their concatenation; and what each writer of text.rt knows where it returns. Assumes nothing.
-use mathlib.Core.Path.{◌≡◌, refl, sym, ap, ◌∙◌}
+-- A text put after another is their concatenation; and what each method of a writer knows where it returns. Assumes nothing.
+use mathlib.Core.Path.{◌≡◌, refl, sym, ap, ◌∙◌, subst}
 use mathlib.Core.List.{List, [], ◌∷◌, ◌++◌}
 use Prim.Native.Nat.{ℕ, zero, suc, ◌+◌, ◌/◌, ◌%◌, ◌≤◌, ◌<◌}
 use native.Mathlib.Nat.{add-zero}
 use native.Mathlib.Numerals.{add-one}
 use native.Mathlib.Omega.{arith}
 use lib.ListN.{length, take, get_or, set, length-append}
-use lib.Seq.{sets, take-suc, take-length}
+use lib.Seq.{sets, take-suc}
 use Rattle.io.specs.Digits.{hex_digit_ascii}
-use Rattle.replay.specs.Text.{Output, output, wrote, spaced, hex, decimal}
+use Rattle.replay.specs.declared.text.Writer.{Writer}
+use Rattle.replay.specs.Text.{Output, output, wrote, held_by, Writes, spaced, hex, decimal}
 
 -- ---- Stores
 
@@ -40,11 +41,18 @@ pub wrote_none : (o : Output) → o ≡ wrote o []
 unfolding wrote
 wrote_none o = ap (λ (n : ℕ). output n o.bytes) (sym (add-zero o.at))
 
--- one text, and another after it
-pub after : (o p q : Output) (a b : List ℕ) → p ≡ wrote o a → q ≡ wrote p b → q ≡ wrote o (a ++ b)
-after o p q a b e f = f ∙ ap (λ (x : Output). wrote x b) e ∙ wrote_more o a b
+-- ---- What a writer has written
 
--- ---- The writers
+pub written_none : (a : Writer) → Writes a a []
+written_none a = record { same_output = refl; after = wrote_none (held_by a) }
+
+-- one text, and another after it
+pub joined : {a b c : Writer} {x y : List ℕ} → Writes a b x → Writes b c y → Writes a c (x ++ y)
+joined {a} {b} {c} {x} {y} p q =
+    record {
+      same_output = q.same_output ∙ p.same_output;
+      after = q.after ∙ ap (λ (o : Output). wrote o y) p.after ∙ wrote_more (held_by a) x y;
+    }
 
 pub byte_in : (out : List ℕ) (at b : ℕ) → output (at + 1) (set out at b) ≡ wrote (output at out) (b ∷ [])
 unfolding wrote
@@ -54,30 +62,24 @@ pub byte_past : (out : List ℕ) (at b : ℕ) → length out ≤ at → output (
 unfolding wrote
 byte_past out at b h = ap (output (at + 1)) (sym (set_past out at b h))
 
-pub some_none : (out : List ℕ) (at : ℕ) (text : List ℕ) → output at out ≡ wrote (output at out) (take 0 text)
-some_none out at text = wrote_none (output at out)
+-- the first i bytes of a text, and one more
+pub some_more : {a b c : Writer} (text : List ℕ) (i : ℕ) → Writes a b (take i text) → i < length text → Writes b c (get_or text i 0 ∷ [])
+    → Writes a c (take (i + 1) text)
+some_more {a} {b} {c} text i p h q =
+    subst (Writes a c) (sym (take-suc text i 0 h) ∙ ap (λ (n : ℕ). take n text) (sym (add-one i))) (joined p q)
 
-pub some_more : (old out new : List ℕ) (at to next i : ℕ) (text : List ℕ) → i < length text → output to out ≡ wrote (output at old) (take i text)
-    → output next new ≡ wrote (output to out) (get_or text i 0 ∷ []) → output next new ≡ wrote (output at old) (take (i + 1) text)
-some_more old out new at to next i text h e p =
-    after (output at old) (output to out) (output next new) (take i text) (get_or text i 0 ∷ []) e p
-    ∙ ap (wrote (output at old)) (sym (take-suc text i 0 h) ∙ ap (λ (n : ℕ). take n text) (sym (add-one i)))
-
-pub some_all : (old out : List ℕ) (at to i : ℕ) (text : List ℕ) → i ≤ length text → length text ≤ i → output to out ≡ wrote (output at old) (take i text)
-    → output to out ≡ wrote (output at old) text
-some_all old out at to i text h k e =
-    let z : i ≡ length text = omega arith in
-    e ∙ ap (wrote (output at old)) (ap (λ (n : ℕ). take n text) z ∙ take-length text)
-
-pub space_after : (o p q : Output) (text : List ℕ) → p ≡ wrote o (32 ∷ []) → q ≡ wrote p text → q ≡ wrote o (spaced text)
+pub space_after : {a b c : Writer} {text : List ℕ} → Writes a b (32 ∷ []) → Writes b c text → Writes a c (spaced text)
 unfolding spaced
-space_after o p q text e f = after o p q (32 ∷ []) text e f
+space_after p q = joined p q
 
-pub hex_after : (o p q : Output) (b high low : ℕ) → high ≡ hex_digit_ascii (b / 16) → low ≡ hex_digit_ascii (b % 16) → p ≡ wrote o (spaced (high ∷ []))
-    → q ≡ wrote p (low ∷ []) → q ≡ wrote o (spaced (hex b))
+pub hex_after : {a b c : Writer} (byte high low : ℕ) → Writes a b (spaced (high ∷ [])) → Writes b c (low ∷ [])
+    → high ≡ hex_digit_ascii (byte / 16) → low ≡ hex_digit_ascii (byte % 16) → Writes a c (spaced (hex byte))
 unfolding spaced hex
-hex_after o p q b high low g h e f =
-    after o p q (32 ∷ high ∷ []) (low ∷ []) e f ∙ rw (g, h) refl
+hex_after {a} {b} {c} byte high low p q g h = subst (λ (t : List ℕ). Writes a c (32 ∷ t)) (rw (g, h) refl) (joined p q)
 
-pub decimal_after : (o q : Output) (n : ℕ) (text digits : List ℕ) → text ≡ digits → digits ≡ decimal n → q ≡ wrote o text → q ≡ wrote o (decimal n)
-decimal_after o q n text digits d e f = f ∙ ap (wrote o) (d ∙ e)
+pub decimal_after : {a b : Writer} (n : ℕ) {text : List ℕ} → Writes a b text → (digits : List ℕ) → text ≡ digits → digits ≡ decimal n → Writes a b (decimal n)
+decimal_after {a} {b} n p digits d e = subst (Writes a b) (d ∙ e) p
+
+-- what a writer that began at a place of an output has written
+pub written : {a b : Writer} {text : List ℕ} (at : ℕ) (out : List ℕ) → held_by a ≡ output at out → Writes a b text → held_by b ≡ wrote (output at out) text
+written {text = text} at out h p = p.after ∙ ap (λ (o : Output). wrote o text) h

@@ -16,7 +16,8 @@ use Rattle.trace.specs.declared.Event.{Event}
 use Rattle.trace.specs.Content.{no_event}
 use Rattle.replay.specs.declared.event.State.{State}
 use Rattle.replay.specs.declared.event.Step.{Step}
-use Rattle.replay.specs.Text.{Output, wrote}
+use Rattle.replay.specs.declared.text.Writer.{Writer}
+use Rattle.replay.specs.Text.{Output, wrote, held_by, Writes}
 use Rattle.replay.specs.Run.{Within, Running, running, Stepped, stepped, left, step}
 use Rattle.replay.specs.Listing.{line, last_line, lines}
 use Rattle.replay.proofs.TextLaws.{wrote_more}
@@ -41,8 +42,8 @@ module _ (bytes : List ℕ) (s : State) (m o : Memories) (d f : List ℕ) (e : E
   pub event_left : running t.state o f ≡ left (step bytes (running s m d) e)
   event_left = ap left q
 
-  pub event_line : (number : ℕ) (a b : Output) → b ≡ wrote a (line number t.shown) → b ≡ wrote a (line number (step bytes (running s m d) e).step.shown)
-  event_line number a b h = h ∙ ap (λ (x : Stepped). wrote a (line number x.step.shown)) q
+  pub event_line : (number : ℕ) {a b : Writer} → Writes a b (line number t.shown) → Writes a b (line number (step bytes (running s m d) e).step.shown)
+  event_line number {a} {b} h = subst (λ (x : Stepped). Writes a b (line number x.step.shown)) q h
 
 -- ---- The loop
 
@@ -56,19 +57,24 @@ module _ (bytes : List ℕ) (s t : State) (m o : Memories) (d f : List ℕ) (e :
   pub next_within : (n : ℕ) → Within n s.tally → Within (n + 1) t.tally
   next_within n w = subst (λ (x : Running). Within (n + 1) x.state.tally) (sym q) (step_within bytes (running s m d) e n w)
 
-  pub walk_more : (i : ℕ) (events : List Event) (a b whole : Output) → i < length events → e ≡ get_or events i no_event
-      → b ≡ wrote a (line (i + 1) (step bytes (running s m d) e).step.shown)
-      → wrote a (lines bytes (running s m d) i (drop i events)) ≡ whole
-      → wrote b (lines bytes (running t o f) (i + 1) (drop (i + 1) events)) ≡ whole
+  pub walk_more : (i : ℕ) (events : List Event) {a b : Writer} (whole : Output) → i < length events → e ≡ get_or events i no_event
+      → Writes a b (line (i + 1) (step bytes (running s m d) e).step.shown)
+      → wrote (held_by a) (lines bytes (running s m d) i (drop i events)) ≡ whole
+      → wrote (held_by b) (lines bytes (running t o f) (i + 1) (drop (i + 1) events)) ≡ whole
   unfolding lines
-  walk_more i events a b whole h g p z =
+  walk_more i events {a} {b} whole h g p z =
       let l = line (i + 1) (step bytes (running s m d) e).step.shown in
       let rest = lines bytes (running t o f) (i + 1) (drop (i + 1) events) in
       let y : lines bytes (running s m d) i (drop i events) ≡ l ++ rest = rw (add-one i, drop-cons events i no_event h, ← g, ← q) refl in
-      ap (λ (x : Output). wrote x rest) p ∙ wrote_more a l rest ∙ ap (wrote a) (sym y) ∙ z
+      ap (λ (x : Output). wrote x rest) p.after ∙ wrote_more (held_by a) l rest ∙ ap (wrote (held_by a)) (sym y) ∙ z
 
-pub walk_end : (bytes : List ℕ) (s : State) (m : Memories) (d : List ℕ) (i : ℕ) (events : List Event) (a b whole : Output) → length events ≤ i
-    → b ≡ wrote a (last_line s.tally s.pool) → wrote a (lines bytes (running s m d) i (drop i events)) ≡ whole → b ≡ whole
+pub walk_end : (bytes : List ℕ) (s : State) (m : Memories) (d : List ℕ) (i : ℕ) (events : List Event) {a b : Writer} (whole : Output) → length events ≤ i
+    → Writes a b (last_line s.tally s.pool) → wrote (held_by a) (lines bytes (running s m d) i (drop i events)) ≡ whole → held_by b ≡ whole
 unfolding lines
-walk_end bytes s m d i events a b whole h p z =
-    p ∙ rw (drop_of_length-le events h) at z
+walk_end bytes s m d i events whole h p z =
+    p.after ∙ rw (drop_of_length-le events h) at z
+
+-- the lines over the bytes of the file, by whichever name
+pub walked : (bytes more : List ℕ) → bytes ≡ more → {a b : Writer} (s : Running) (events : List Event) → Writes a b (lines bytes s 0 events)
+    → Writes a b (lines more s 0 events)
+walked bytes more e {a} {b} s events p = subst (λ (x : List ℕ). Writes a b (lines x s 0 events)) e p

@@ -7,8 +7,8 @@ use Rattle.trace.specs.Content.{content, events_from}
 use Rattle.replay.specs.Text.{places, decimal, hex, signed, spaced}
 use Rattle.replay.specs.Slots.{bears, slot_from, slot_of, handle_at, handle_of, held_at, held_from, held}
 use Rattle.replay.specs.Percentage.{even_neighbour, nearest, percent}
-use Rattle.replay.specs.Run.{counted, kind_letter, take_extent, release_extent, extent_of, starts_of, shown_of, fills, filling, filled, call_of, step_of, step}
-use Rattle.replay.specs.Listing.{first_line, move_of, line_head, line, last_line, lines, begun_on, listing_on, listing_of, refused_nine, refused_ten, listing_by, listing}
+use Rattle.replay.specs.Run.{counted, kind_letter, take_extent, release_extent, extent_of, starts_of, shown_so, shown_of, fills, filling, filled, call_of, step_of, step}
+use Rattle.replay.specs.Listing.{first_line, move_of, line_head, line, last_line, lines, begun_on, listing_on, listing_of, refused_nine, refused_ten, refused, listing_by, listing}
 
 unfoldable pub printed : List ℕ
 printed =
@@ -127,5 +127,5 @@ percent_table =
 
 -- opens what a listing unfolds to, for computing
 unfoldable pub definitions : Unit {0}
-unfolding pool.definitions trace.definitions content events_from places decimal hex signed spaced bears slot_from slot_of handle_at handle_of held_at held_from held even_neighbour nearest percent counted kind_letter take_extent release_extent extent_of starts_of shown_of fills filling filled call_of step_of step first_line move_of line_head line last_line lines begun_on listing_on listing_of refused_nine refused_ten listing_by listing
+unfolding pool.definitions trace.definitions content events_from places decimal hex signed spaced bears slot_from slot_of handle_at handle_of held_at held_from held even_neighbour nearest percent counted kind_letter take_extent release_extent extent_of starts_of shown_so shown_of fills filling filled call_of step_of step first_line move_of line_head line last_line lines begun_on listing_on listing_of refused_nine refused_ten refused listing_by listing
 definitions = tt

@@ -1,20 +1,20 @@
 -- The listing of a trace file, SPECIFICATION 10: the bytes that `replay` writes.
-use Rattle.std.specs.Prelude.{List, [], ◌∷◌, ◌++◌, ℕ, suc, ◌+◌, ◌-◌, ◌*◌, ◌/◌, leb, length, drop, replicate, ℤ, pos, ◌-ℤ◌}
+use Rattle.std.specs.Prelude.{List, [], ◌∷◌, ◌++◌, ℕ, suc, ◌+◌, ◌-◌, ◌*◌, ◌/◌, leb, length, drop, replicate, ℤ, pos, ◌-ℤ◌, Result, Ok, Err}
 use Rattle.laws.specs.Tests.{pick}
 use Rattle.buffer_pool.specs.declared.buffer_pool.BufferPool.{BufferPool}
 use Rattle.buffer_pool.specs.Record.{rust_slots}
 use Rattle.buffer_pool.specs.Moves.{Memories, memories}
 use Rattle.buffer_pool.specs.Calls.{Outcome, new}
 use Rattle.trace.specs.declared.Event.{Event}
-use Rattle.trace.specs.declared.Answer as trace
-use Rattle.trace.specs.declared.Answer.TheVariants.{Trace, BadHeader, BadEvent}
+use Rattle.trace.specs.declared.Header.{Header}
+use Rattle.trace.specs.declared.Refusal.{Refusal}
+use Rattle.trace.specs.declared.Refusal.TheVariants.{WrongHeader, BadEvent}
 use Rattle.trace.specs.Trace.{size_limit, file_limit, header_length, event_length, reading}
 use Rattle.trace.specs.Content.{Content, content}
 use Rattle.replay.specs.declared.event.Tally.{Tally}
 use Rattle.replay.specs.declared.event.Starts.{Starts}
 use Rattle.replay.specs.declared.event.Shown.{Shown}
-use Rattle.replay.specs.declared.Answer.{Answer}
-use Rattle.replay.specs.declared.Answer.TheVariants.{Listed, TooShort}
+use Rattle.replay.specs.declared.TooShort.{TooShort}
 use Rattle.replay.specs.Text.{decimal, hex, signed, spaced, newline}
 use Rattle.replay.specs.Slots.{held}
 use Rattle.replay.specs.Percentage.{percent}
@@ -87,11 +87,14 @@ refused_nine = refused_with 9 ++ newline
 unfoldable pub refused_ten : ℕ → List ℕ
 refused_ten event = refused_with 10 ++ spaced (decimal event) ++ newline
 
+unfoldable pub refused : Refusal → List ℕ
+refused WrongHeader = refused_nine
+refused (BadEvent event) = refused_ten event
+
 -- the listing, by what reading the file gives
-unfoldable pub listing_by : trace.Answer → Content → List ℕ
-listing_by (Trace header) c = listing_of c
-listing_by BadHeader c = refused_nine
-listing_by (BadEvent event) c = refused_ten event
+unfoldable pub listing_by : Result Header Refusal → Content → List ℕ
+listing_by (Ok header) c = listing_of c
+listing_by (Err refusal) c = refused refusal
 
 -- the listing of a file
 unfoldable pub listing : List ℕ → List ℕ
@@ -125,14 +128,14 @@ listing_limit = first_limit + event_limit * line_limit + last_limit
 
 -- its answer, and the lent output
 pub record Replayed : Type 0 where
-  pub answer : Answer
+  pub answer : Result ℕ TooShort
   pub output : List ℕ
 
-abbrev pub replayed : Answer → List ℕ → Replayed
+abbrev pub replayed : Result ℕ TooShort → List ℕ → Replayed
 replayed answer output = record { answer = answer; output = output }
 
 -- a text goes to the start of an output that is long enough, and the bytes after it stay; a shorter output stays whole
 unfoldable pub delivered : List ℕ → List ℕ → Replayed
 delivered text output =
-    pick (leb (length text) (length output)) (replayed (Listed (length text)) (text ++ drop (length text) output))
-    (replayed (TooShort (length text)) output)
+    pick (leb (length text) (length output)) (replayed (Ok (length text)) (text ++ drop (length text) output))
+    (replayed (Err (record { needed = length text })) output)

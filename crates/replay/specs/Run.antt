@@ -1,6 +1,6 @@
 -- The run of a trace: what each event does to the pool, its memories and the counts, and what its line shows. The calls are the
 -- definitions of the crate buffer_pool.
-use Rattle.std.specs.Prelude.{Bool, true, false, ◌&&◌, List, ℕ, ◌+◌, ◌-◌, ◌≤◌, min, leb, eqb, length}
+use Rattle.std.specs.Prelude.{◌≡◌, Bool, true, false, ◌&&◌, List, ℕ, ◌+◌, ◌-◌, ◌≤◌, min, leb, eqb, length}
 use Rattle.std.proofs.lemmas.List.Edits.{sets}
 use Rattle.laws.specs.Tests.{pick}
 use Rattle.laws.specs.Lists.{part}
@@ -11,7 +11,7 @@ use Rattle.buffer_pool.specs.declared.buffer_pool.PoolMode.TheVariants.{Back, Fr
 use Rattle.buffer_pool.specs.declared.buffer_pool.Memory.{Memory}
 use Rattle.buffer_pool.specs.declared.buffer_pool.Memory.TheVariants.{Pool, Overflow}
 use Rattle.buffer_pool.specs.declared.buffer_pool.Called.{Called}
-use Rattle.buffer_pool.specs.Values.{Values, values}
+use Rattle.buffer_pool.specs.Values.{Values, valued, values}
 use Rattle.buffer_pool.specs.Moves.{Memories, memories}
 use Rattle.buffer_pool.specs.Steps.{reservation}
 use Rattle.buffer_pool.specs.Calls as calls
@@ -24,6 +24,8 @@ use Rattle.replay.specs.declared.event.Extent.{Extent}
 use Rattle.replay.specs.declared.event.Starts.{Starts}
 use Rattle.replay.specs.declared.event.Shown.{Shown}
 use Rattle.replay.specs.declared.event.Step.{Step}
+use Rattle.replay.specs.declared.event.Told.{Told}
+use Rattle.replay.specs.declared.lent.Lent.{Lent}
 use Rattle.replay.specs.Slots.{handle_of}
 
 -- ---- The counts of line T
@@ -49,6 +51,16 @@ counted t v =
       takes = t.takes + taken_of v;
       spilled = t.spilled + spilled_of v;
     }
+
+-- what the code reads off an answer; no count and no line tells how often the mode changed
+abbrev pub said : Told → Values
+said a = valued a.refusal a.place a.handle a.copied 0
+
+pub record Tells (a : Told) (v : Values) : Type 0 where
+  pub refusal_is : a.refusal ≡ v.number
+  pub place_is : a.place ≡ v.place
+  pub handle_is : a.handle ≡ v.handle
+  pub copied_is : a.copied ≡ v.length
 
 -- ---- What a line shows
 
@@ -97,17 +109,21 @@ unfoldable pub starts_of : ℕ → BufferPool → BufferPool → Starts
 starts_of kind r q =
     pick (eqb kind reserve_kind && (in_pool r.mode && in_pool q.mode)) (starts r.raw_offset q.raw_offset) (starts 0 0)
 
--- what the line shows of an event of this kind on the record r, which had this handle and was called so
-unfoldable pub shown_of : ℕ → BufferPool → Handle → Called → Shown
-shown_of kind r h c =
+-- what the line shows of an event of this kind on the record r, which had this handle, left the record q and answered so
+unfoldable pub shown_so : ℕ → BufferPool → Handle → BufferPool → Values → Shown
+shown_so kind r h q v =
     record {
       kind = kind_letter kind;
-      refusal = (values c.answer).number;
-      mode = mode_letter c.pool.mode;
-      live = c.pool.live;
-      place = extent_of kind h (values c.answer);
-      frame = starts_of kind r c.pool;
+      refusal = v.number;
+      mode = mode_letter q.mode;
+      live = q.live;
+      place = extent_of kind h v;
+      frame = starts_of kind r q;
     }
+
+-- and which was called so
+unfoldable pub shown_of : ℕ → BufferPool → Handle → Called → Shown
+shown_of kind r h c = shown_so kind r h c.pool (values c.answer)
 
 -- ---- An event
 
@@ -140,6 +156,10 @@ call_of r m destination e h =
     (pick (eqb e.kind take_kind) (calls.take r.slots r m e.caller destination)
     (pick (eqb e.kind truncate_kind) (beside destination (calls.truncate r.slots r m e.number))
     (beside destination (calls.release r.slots r m h)))))
+
+-- the memories that a run lends
+abbrev pub memory_of : Lent → Memories
+memory_of l = memories l.pool.now l.overflow.now
 
 -- the run between two events: its state, the memories, and the destination of its takes
 pub record Running : Type 0 where

@@ -1,8 +1,9 @@
 -- Numbers as text, and text put into a lent output. The listing's lines are made of these.
-use Rattle.std.specs.Prelude.{List, [], ◌∷◌, ℕ, zero, suc, ◌+◌, ◌/◌, ◌%◌, ltb, length, ℤ, pos, negsuc}
+use Rattle.std.specs.Prelude.{◌≡◌, List, [], ◌∷◌, ℕ, zero, suc, ◌+◌, ◌/◌, ◌%◌, ltb, length, ℤ, pos, negsuc}
 use Rattle.std.proofs.lemmas.List.Edits.{sets}
 use Rattle.io.specs.Digits.{last_digits, hex_digit_ascii}
 use Rattle.laws.specs.Tests.{pick}
+use Rattle.replay.specs.declared.text.Writer.{Writer}
 
 -- ---- Numbers
 
@@ -45,3 +46,12 @@ output at bytes = record { at = at; bytes = bytes }
 -- what an output becomes by a text: what of it lies past the output's end is not written, and still counts for the place
 unfoldable pub wrote : Output → List ℕ → Output
 wrote o text = output (o.at + length text) (sets o.bytes o.at text)
+
+-- the output and the place that a writer holds
+abbrev pub held_by : Writer → Output
+held_by w = output w.at w.out.now
+
+-- a writer, as it was and with a text written: in the same lent output
+pub record Writes (old new : Writer) (text : List ℕ) : Type 0 where
+  pub same_output : new.out.ghost_name ≡ old.out.ghost_name
+  pub after : held_by new ≡ wrote (held_by old) text

@@ -1,19 +1,19 @@
 // One event of a run: the public call of the pool that it makes, and what its line shows.
-ghost use Rattle.std.specs.Prelude.{◌≡◌, true, ◌+◌, ◌-◌, ◌≤◌, ◌<◌, ◌^◌, min, length};
-ghost use Rattle.std.proofs.lemmas.List.Edits.{sets};
+ghost use Rattle.std.specs.Prelude.{◌≡◌, true, ◌+◌, ◌-◌, ◌≤◌, ◌<◌, ◌^◌, min, eqb, length};
 ghost use Rattle.buffer_pool.specs.Record.{most_slots};
 ghost use Rattle.buffer_pool.specs.Moves.{memories};
 ghost use Rattle.buffer_pool.specs.Values.{values};
-ghost use Rattle.buffer_pool.specs.Calls as calls;
+ghost use Rattle.trace.specs.Trace.{byte_of};
 ghost use Rattle.replay.specs.Run as spec;
 
-use crate::slots::handle_of;
-use crate::text::put_some;
-use buffer_pool::buffer_pool::{Answer, BufferPool, Called, PoolMode};
+use crate::lent::Lent;
+use crate::slots::Slots;
+use buffer_pool::buffer_pool::{BufferPool, Called, Place, PoolMode};
 use buffer_pool::slice::Handle;
-use trace::Event;
+use trace::{Event, Kind};
 
-// How many events were done and how many refused; how many takes were non-empty, and how many of these came from the overflow.
+// How many events were done and how many refused; how many takes were non-empty, and how many of these came from the overflow. The
+// counts grow with the events, so that a bound of them stands in contracts (`Within`) and not in a ghost field.
 #[derive(Clone, Copy)]
 pub struct Tally {
     pub done: u64,
@@ -44,7 +44,8 @@ pub struct Starts {
     pub after: u64,
 }
 
-// What the line of an event shows after the event's number.
+// What the line of an event shows after the event's number, as it is printed: letters for a kind and a mode, and 0 where there is no
+// refusal or no move.
 #[derive(Clone, Copy)]
 pub struct Shown {
     pub kind: u8,
@@ -62,59 +63,69 @@ pub struct Step {
     pub shown: Shown,
 }
 
+// What a call answered, as far as a line and the counts tell it: values that the definitions read an answer by (`values`, of a refusal
+// too). Taken apart as a Result, each definition would read it anew.
+#[derive(Clone, Copy)]
+pub struct Told {
+    pub refusal: u8,
+    pub place: Place,
+    pub handle: Handle,
+    pub copied: u64,
+}
+
 // ---- Counting
 
-// 1 for a number that is not 0.
-fn some(n: u64) -> u64
-    ensures { (result ≡ min n 1) × (result ≤ 1) }
+// What a call answered.
+fn told_of(c: Called) -> Told
+    ensures { spec.Tells result (values c.answer) }
 {
-    if n == 0 { 0 } else { 1 }
+    Told {
+        refusal: c.refusal(),
+        place: c.place(),
+        handle: c.handle(),
+        copied: c.copied(),
+    }
 }
 
-// A slot and a count of copied bytes, of which one is 0, as one number.
-fn either(slot: u8, copied: u64) -> u64
-    ensures { min result 1 ≡ min (slot + copied) 1 }
-{
-    if copied == 0 { slot as u64 } else { copied }
-}
-
-// The counts after a call with this answer.
-fn counted(t: Tally, answer: Answer) -> Tally
+// The counts after a call that answered so.
+fn counted(t: Tally, a: Told) -> Tally
     requires { spec.Within (2 ^ 63) t }
-    ensures { result ≡ spec.counted t (values answer) }
+    ensures { result ≡ spec.counted t (spec.said a) }
 {
-    let handle = answer.handle();
-    let copied = answer.copied();
-    let no = some(answer.refusal() as u64);
-    let take = some(either(handle.slot, copied));
-    let spill = some(copied);
+    let refused = a.refusal != 0;
+    let spilled = a.copied != 0;
+    let taken = a.handle.slot != 0 || spilled;
     Tally {
-        done: t.done + (1 - no),
-        refused: t.refused + no,
-        takes: t.takes + take,
-        spilled: t.spilled + spill,
+        done: t.done + u64::from(!refused),
+        refused: t.refused + u64::from(refused),
+        takes: t.takes + u64::from(taken),
+        spilled: t.spilled + u64::from(spilled),
     }
 }
 
 // ---- What a line shows
 
-// The letter of a kind.
+// The kind stays the byte of the file, which each function reads: the definitions are of any byte, and what a byte that is no kind's
+// shows is not the same in each.
+
+// Is this the byte of that kind?
+fn is_kind(byte: u8, kind: Kind) -> bool
+    ensures { result ≡ eqb byte (byte_of kind) }
+{
+    Kind::try_from(byte) == Ok(kind)
+}
+
+// The letter of the kind with this byte. No event of an accepted file is of no kind; it would be a release.
 fn kind_letter(kind: u8) -> u8
     ensures { result ≡ spec.kind_letter kind }
 {
-    if kind == trace::RESERVE {
-        return b'r';
+    match Kind::try_from(kind).unwrap_or(Kind::Release) {
+        Kind::Reserve => b'r',
+        Kind::Commit => b'c',
+        Kind::Take => b't',
+        Kind::Truncate => b'k',
+        Kind::Release => b'd',
     }
-    if kind == trace::COMMIT {
-        return b'c';
-    }
-    if kind == trace::TAKE {
-        return b't';
-    }
-    if kind == trace::TRUNCATE {
-        return b'k';
-    }
-    b'd'
 }
 
 // The letter of a mode.
@@ -129,27 +140,26 @@ fn mode_letter(mode: PoolMode) -> u8
 }
 
 // The start and length that a take shows: its slice's, or with slot 0 the copied length.
-fn take_extent(answer: Answer) -> Extent
-    ensures { result ≡ spec.take_extent (values answer) }
+fn take_extent(a: Told) -> Extent
+    ensures { result ≡ spec.take_extent (spec.said a) }
 {
-    let g = answer.handle();
-    if g.slot == 0 {
+    if a.handle.slot == 0 {
         return Extent {
             start: 0,
-            length: answer.copied(),
+            length: a.copied,
         };
     }
     Extent {
-        start: g.start as u64,
-        length: g.length as u64,
+        start: a.handle.start as u64,
+        length: a.handle.length as u64,
     }
 }
 
 // The start and length that a release shows: its handle's.
-fn release_extent(h: Handle, answer: Answer) -> Extent
-    ensures { result ≡ spec.release_extent h (values answer) }
+fn release_extent(h: Handle, a: Told) -> Extent
+    ensures { result ≡ spec.release_extent h (spec.said a) }
 {
-    if answer.refusal() != 0 {
+    if a.refusal != 0 {
         return Extent {
             start: 0,
             length: 0,
@@ -162,19 +172,16 @@ fn release_extent(h: Handle, answer: Answer) -> Extent
 }
 
 // The start and length to show; a release has the handle.
-fn extent_of(kind: u8, h: Handle, answer: Answer) -> Extent
-    ensures { result ≡ spec.extent_of kind h (values answer) }
+fn extent_of(kind: u8, h: Handle, a: Told) -> Extent
+    ensures { result ≡ spec.extent_of kind h (spec.said a) }
 {
-    if kind == trace::TAKE {
-        return take_extent(answer);
-    }
-    if kind == trace::RELEASE {
-        return release_extent(h, answer);
-    }
-    let place = answer.place();
-    Extent {
-        start: place.start,
-        length: place.length,
+    match Kind::try_from(kind) {
+        Ok(Kind::Take) => take_extent(a),
+        Ok(Kind::Release) => release_extent(h, a),
+        Ok(Kind::Reserve | Kind::Commit | Kind::Truncate) | Err(_) => Extent {
+            start: a.place.start,
+            length: a.place.length,
+        },
     }
 }
 
@@ -182,56 +189,35 @@ fn extent_of(kind: u8, h: Handle, answer: Answer) -> Extent
 fn in_pool(mode: PoolMode) -> bool
     ensures { result ≡ spec.in_pool mode }
 {
-    match mode {
-        PoolMode::Back => true,
-        PoolMode::Front(_) => true,
-        PoolMode::Alloc => false,
-    }
+    matches!(mode, PoolMode::Back | PoolMode::Front(_))
 }
 
 // The frame's start before and after, where the line shows their difference, and otherwise twice 0.
-fn starts_of(kind: u8, r: BufferPool, q: BufferPool) -> Starts
-    ensures { result ≡ spec.starts_of kind r q }
+fn starts_of(kind: u8, r: &BufferPool, q: &BufferPool) -> Starts
+    ensures { result ≡ spec.starts_of kind r.now q.now }
 {
-    if kind != trace::RESERVE {
+    if is_kind(kind, Kind::Reserve) && in_pool(r.mode) && in_pool(q.mode) {
         return Starts {
-            before: 0,
-            after: 0,
-        };
-    }
-    let before = r.mode;
-    let after = q.mode;
-    if !in_pool(before) {
-        return Starts {
-            before: 0,
-            after: 0,
-        };
-    }
-    if !in_pool(after) {
-        return Starts {
-            before: 0,
-            after: 0,
+            before: r.raw_offset,
+            after: q.raw_offset,
         };
     }
     Starts {
-        before: r.raw_offset,
-        after: q.raw_offset,
+        before: 0,
+        after: 0,
     }
 }
 
-// What the line shows of an event.
-fn shown_of(kind: u8, r: BufferPool, h: Handle, c: Called) -> Shown
-    ensures { result ≡ spec.shown_of kind r h c }
+// What the line shows of an event on the record `r`, which left the record `q` and answered so.
+fn shown_of(kind: u8, r: &BufferPool, h: Handle, q: &BufferPool, a: Told) -> Shown
+    ensures { result ≡ spec.shown_so kind r.now h q.now (spec.said a) }
 {
-    let answer = c.answer;
-    let q = c.pool;
-    let mode = q.mode;
     Shown {
         kind: kind_letter(kind),
-        refusal: answer.refusal(),
-        mode: mode_letter(mode),
+        refusal: a.refusal,
+        mode: mode_letter(q.mode),
         live: q.live,
-        place: extent_of(kind, h, answer),
+        place: extent_of(kind, h, a),
         frame: starts_of(kind, r, q),
     }
 }
@@ -239,94 +225,13 @@ fn shown_of(kind: u8, r: BufferPool, h: Handle, c: Called) -> Shown
 // ---- The event
 
 // How many of the trace bytes that are left the event copies: none unless it is a commit within its reservation.
-fn filling(r: BufferPool, e: Event, left: usize) -> usize
-    ensures { (result ≡ spec.filling r e left) × (result ≤ left) }
+fn filling(r: &BufferPool, e: Event, left: usize) -> usize
+    ensures { (result ≡ spec.filling r.now e left) × (result ≤ left) }
 {
-    if e.kind != trace::COMMIT {
-        return 0;
+    if is_kind(e.kind, Kind::Commit) && e.number as u64 <= r.reserved {
+        return left.min(e.number as usize);
     }
-    let n = e.number as u64;
-    if r.reserved < n {
-        return 0;
-    }
-    let k = n as usize;
-    if left < k {
-        return left;
-    }
-    k
-}
-
-// Bytes into a memory, `len` bytes after `start`. What would lie past its end is left out.
-fn fill_at(memory: &mut [u8], start: u64, len: u64, text: &[u8])
-    requires { (length memory.old ≤ 2 ^ 32) × (length text.now ≤ 2 ^ 32) }
-    ensures { memory.new ≡ sets memory.old (start + len) text.now }
-{
-    let n = memory.len() as u64;
-    if n < start {
-        return;
-    }
-    if n - start < len {
-        return;
-    }
-    put_some(memory, (start + len) as usize, text);
-}
-
-// Bytes into the reservation, from its start on.
-fn fill(r: BufferPool, pool: &mut [u8], overflow: &mut [u8], text: &[u8])
-    requires { (length pool.old ≤ 2 ^ 32) × (length overflow.old ≤ 2 ^ 32) × (length text.now ≤ 2 ^ 32) }
-    ensures { memories pool.new overflow.new ≡ spec.filled r text.now (memories pool.old overflow.old) }
-{
-    let mode = r.mode;
-    match mode {
-        PoolMode::Back => fill_at(pool, r.raw_offset, r.raw_len, text),
-        PoolMode::Front(_) => fill_at(pool, r.raw_offset, r.raw_len, text),
-        PoolMode::Alloc => fill_at(overflow, 0, r.cursor, text),
-    }
-}
-
-// The call of an event; a take is by the event's caller, and a release takes the handle.
-fn call(
-    r: BufferPool,
-    pool: &mut [u8],
-    overflow: &mut [u8],
-    destination: &mut [u8],
-    e: Event,
-    h: Handle,
-) -> Called
-    ensures { calls.outcome result (memories pool.new overflow.new) destination.new ≡ spec.call_of r (memories pool.old overflow.old) destination.old e h }
-{
-    let kind = e.kind;
-    let n = e.number as u64;
-    if kind == trace::RESERVE {
-        return r.reserve(pool, overflow, n);
-    }
-    if kind == trace::COMMIT {
-        return r.commit(pool, overflow, n);
-    }
-    if kind == trace::TAKE {
-        return r.take(pool, overflow, e.caller as u64, destination);
-    }
-    if kind == trace::TRUNCATE {
-        return r.truncate(pool, overflow, n);
-    }
-    r.release(pool, overflow, h)
-}
-
-// The trace bytes of a commit, and the call.
-fn fill_and_call(
-    r: BufferPool,
-    pool: &mut [u8],
-    overflow: &mut [u8],
-    destination: &mut [u8],
-    text: &[u8],
-    e: Event,
-    h: Handle,
-) -> Called
-    requires { (length pool.old ≤ 2 ^ 32) × (length overflow.old ≤ 2 ^ 32) × (length text.now ≤ 2 ^ 32) }
-    ensures { calls.outcome result (memories pool.new overflow.new) destination.new ≡ spec.call_of r (spec.filled r text.now (memories pool.old overflow.old)) destination.old e h }
-{
-    fill(r, pool, overflow, text);
-    call(r, pool, overflow, destination, e, h)
+    0
 }
 
 // The next state and the line, after a call and with `next` trace bytes used.
@@ -334,37 +239,28 @@ fn step_of(s: State, e: Event, h: Handle, next: usize, c: Called) -> Step
     requires { spec.Within (2 ^ 63) s.tally }
     ensures { result ≡ spec.step_of s e h next c }
 {
-    let r = s.pool;
-    let q = c.pool;
-    let answer = c.answer;
+    let a = told_of(c);
     Step {
         state: State {
-            pool: q,
-            next: next,
-            tally: counted(s.tally, answer),
+            pool: c.pool,
+            next,
+            tally: counted(s.tally, a),
         },
-        shown: shown_of(e.kind, r, h, c),
+        shown: shown_of(e.kind, &s.pool, h, &c.pool, a),
     }
 }
 
 // One event of a run over these trace bytes.
-pub(crate) fn run_event(
-    s: State,
-    pool: &mut [u8],
-    overflow: &mut [u8],
-    destination: &mut [u8],
-    bytes: &[u8],
-    e: Event,
-) -> Step
+pub(crate) fn run_event(s: State, m: &mut Lent, bytes: &[u8], e: Event) -> Step
     requires next_in_bounds { (s.next ≤ length bytes.now) × spec.Within (2 ^ 63) s.tally × (s.pool.slots ≤ most_slots) }
-    requires pool_len_bound { (length pool.old ≤ 2 ^ 32) × (length overflow.old ≤ 2 ^ 32) × (length bytes.now ≤ 2 ^ 32) }
-    ensures { spec.stepped result (memories pool.new overflow.new) destination.new ≡ spec.step bytes.now (spec.running s (memories pool.old overflow.old) destination.old) e }
+    requires bytes_bound { length bytes.now ≤ 2 ^ 32 }
+    ensures { spec.stepped result (spec.memory_of m.new) m.new.destination.now ≡ spec.step bytes.now (spec.running s (spec.memory_of m.old) m.old.destination.now) e }
 {
     let r = s.pool;
-    let next = s.next;
-    let k = filling(r, e, bytes.len() - next);
-    let end = next + k;
-    let h = handle_of(r, e.caller, e.number);
-    let c = fill_and_call(r, pool, overflow, destination, &bytes[next..end], e, h);
+    let k = filling(&r, e, bytes.len() - s.next);
+    let end = s.next + k;
+    let h = Slots::new(&r).handle_of(e.caller, e.number);
+    m.fill(&r, &bytes[s.next..end]);
+    let c = m.call(r, e, h);
     step_of(s, e, h, end, c)
 }

@@ -4,6 +4,7 @@
 
 mod event;
 mod held;
+mod lent;
 mod listing;
 mod percent;
 mod slots;
@@ -15,42 +16,40 @@ ghost use Rattle.io.specs.Counts.{IsPrefixLen};
 ghost use Rattle.replay.specs.Text.{output, wrote};
 ghost use Rattle.replay.specs.Listing as spec;
 
-use crate::listing::{put_nine, put_ten};
+use crate::listing::put_refused;
 use crate::walk::put_trace;
 
 // No listing is longer: line one, the lines of 8,189 events, and line T.
 pub const LISTING_LIMIT: usize = 26 + 8_189 * 33 + 22;
 
-// What `replay` answers: the listing was written and is so long, or the output is too short and must be so long.
-#[derive(Clone, Copy)]
-pub enum Answer {
-    Listed(usize),
-    TooShort(usize),
+// An output that is too short for a listing, and how long it must be.
+#[derive(Clone, Copy, Debug, PartialEq, Eq)]
+pub struct TooShort {
+    pub needed: usize,
 }
 
 // The listing of a file at the output's start: what of it lies past the output's end is not written, and still counts.
 fn put_listing(out: &mut [u8], file: &[u8]) -> usize
     ensures { output result out.new ≡ wrote (output 0 out.old) (spec.listing file.now) }
 {
-    let answer = trace::read(file);
-    match answer {
-        trace::Answer::Trace(h) => put_trace(out, file, h),
-        trace::Answer::BadHeader => put_nine(out),
-        trace::Answer::BadEvent(event) => put_ten(out, event),
+    match trace::read(file) {
+        Ok(header) => put_trace(out, file, header),
+        Err(refusal) => put_refused(out, refusal),
     }
 }
 
 // Runs the trace in `file` on its own memories, and writes its listing to the start of `out`; the other bytes of `out` stay. An
-// `out` that is too short stays whole. A file that is refused with 9 or 10 has a listing too: the line that says so.
-pub fn replay(file: &[u8], out: &mut [u8]) -> Answer
+// `out` that is too short stays whole. A file that is refused with 9 or 10 has a listing too: the line that says so. Answers the
+// listing's length.
+pub fn replay(file: &[u8], out: &mut [u8]) -> Result<usize, TooShort>
     ensures { spec.replayed result out.new ≡ spec.delivered (spec.listing file.now) out.old }
 {
     let n = put_listing(&mut out[..0], file);
     if out.len() < n {
-        return Answer::TooShort(n);
+        return Err(TooShort { needed: n });
     }
     put_listing(out, file);
-    Answer::Listed(n)
+    Ok(n)
 }
 
 // Runs the trace in `file` as `replay` does, and writes its listing to the start of `out`, which every listing fits; the other bytes

@@ -10,9 +10,9 @@ use lib.Dec.{eqb}
 use lib.ListN.{length, get_or, drop, length-drop}
 use Rattle.laws.specs.Tests.{pick, implies}
 use Rattle.laws.proofs.Tests.{both_true, both, leb_and, eqb_and, pick_cases}
+use Rattle.std.specs.Prelude.{Option, Some, None, Ok}
 use Rattle.trace.specs.declared.Header.{Header}
 use Rattle.trace.specs.declared.Event.{Event}
-use Rattle.trace.specs.declared.Answer.TheVariants.{Trace}
 use Rattle.trace.specs.Trace.{header_length, size_limit, file_limit, reserve_kind, take_kind, release_kind, most_caller, event_place, capacity_of, overflow_of, event_count, event_offset, byte_count, byte_offset, complete, sized, in_order, ended, headed, header_of, event_at, filler_zero, has_caller, caller_right, right, good_at, OldEvent, first_bad, answer_on, reading}
 use Rattle.trace.specs.Content.{events_from, content, no_event, Callers, header_for}
 use Rattle.trace.proofs.ReadLaws.{length_events}
@@ -41,11 +41,11 @@ pub record Headed (file : List ℕ) : Type 0 where
   pub within : length file ≤ file_limit
 
 -- a file is accepted, with its header's numbers, only if the header is right and no event is bad
-pub accepted_only : (right : Bool) (bad : ℕ) (x h : Header) → answer_on right bad x ≡ Trace h → (right ≡ true) × (bad ≡ 0) × (x ≡ h)
+pub accepted_only : (right : Bool) (bad : Option ℕ) (x h : Header) → answer_on right bad x ≡ Ok h → (right ≡ true) × (bad ≡ None) × (x ≡ h)
 unfolding answer_on
-accepted_only false bad x h e = let z : ◌≡◌ {A = ℕ} 0 1 = cc in absurd (omega arith)
-accepted_only true zero x h e = (refl, refl, cc)
-accepted_only true (suc n) x h e = let z : ◌≡◌ {A = ℕ} 0 1 = cc in absurd (omega arith)
+accepted_only false bad x h e = absurd (cc)
+accepted_only true None x h e = (refl, refl, cc)
+accepted_only true (Some n) x h e = absurd (cc)
 
 module _ (file : List ℕ) where
   pub headed_use : headed file ≡ true → Headed file
@@ -78,28 +78,28 @@ module _ (file : List ℕ) where
       (both (le-leb (length file) file_limit h.within) (eq-eqb (length file) (byte_offset file + byte_count file) h.bytes_last))))
 
   -- where none of the n events from index i on is bad, the first is good, and none after it is bad
-  pub good_first : (i n : ℕ) → first_bad file i (suc n) ≡ 0 → (good_at file i ≡ true) × (first_bad file (suc i) n ≡ 0)
+  pub good_first : (i n : ℕ) → first_bad file i (suc n) ≡ None → (good_at file i ≡ true) × (first_bad file (suc i) n ≡ None)
   unfolding first_bad
   good_first i n e = go (good_at file i) refl e
     where
-      go : (g : Bool) → good_at file i ≡ g → pick g (first_bad file (suc i) n) (suc i) ≡ 0 → (good_at file i ≡ true) × (first_bad file (suc i) n ≡ 0)
+      go : (g : Bool) → good_at file i ≡ g → pick g (first_bad file (suc i) n) (Some (suc i)) ≡ None → (good_at file i ≡ true) × (first_bad file (suc i) n ≡ None)
       go true p q = (p, q)
-      go false p q = absurd (omega arith)
+      go false p q = absurd (cc)
 
   -- so no caller of theirs is above 3
-  good_callers : (i n : ℕ) → first_bad file i n ≡ 0 → Callers (events_from file i n)
+  good_callers : (i n : ℕ) → first_bad file i n ≡ None → Callers (events_from file i n)
   unfolding events_from good_at
   good_callers i zero e j = omega arith
   good_callers i (suc n) e zero = right_caller (event_at file i) (both_true (filler_zero file i) _ (good_first i n e).0).1
   good_callers i (suc n) e (suc j) = good_callers (suc i) n (good_first i n e).1 j
 
   -- an accepted file: its header is right, and no event is bad
-  pub accepted_use : (h : Header) → reading file ≡ Trace h → (headed file ≡ true) × (first_bad file 0 (event_count file) ≡ 0) × (header_of file ≡ h)
+  pub accepted_use : (h : Header) → reading file ≡ Ok h → (headed file ≡ true) × (first_bad file 0 (event_count file) ≡ None) × (header_of file ≡ h)
   unfolding reading
   accepted_use h e = accepted_only (headed file) (first_bad file 0 (event_count file)) (header_of file) h e
 
   -- and no caller is above 3
-  pub accepted_callers : (h : Header) → reading file ≡ Trace h → Callers (content file).events
+  pub accepted_callers : (h : Header) → reading file ≡ Ok h → Callers (content file).events
   unfolding content
   accepted_callers h e = good_callers 0 (event_count file) (accepted_use h e).1
 
@@ -112,7 +112,7 @@ module _ (file : List ℕ) where
       let rest : length (drop (byte_offset file) file) ≡ byte_count file = length-drop (byte_offset file) file ∙ omega arith in
       rw (count, rest) refl
 
-  pub header_content : (h : Header) → reading file ≡ Trace h → header_for (content file) ≡ h
+  pub header_content : (h : Header) → reading file ≡ Ok h → header_for (content file) ≡ h
   header_content h e =
       let facts = accepted_use h e in
       header_same (headed_use facts.0) ∙ facts.2
@@ -133,7 +133,7 @@ module _ (file : List ℕ) where
       numbered true k = eq-eqb (event_at file i).number 0 (O.take_zero (eqb-true (event_at file i).kind take_kind k))
       numbered false k = refl
 
-  none_bad : (i n : ℕ) → ((j : ℕ) → i ≤ j → j < i + n → OldEvent file j) → first_bad file i n ≡ 0
+  none_bad : (i n : ℕ) → ((j : ℕ) → i ≤ j → j < i + n → OldEvent file j) → first_bad file i n ≡ None
   unfolding first_bad
   none_bad i zero old = refl
   none_bad i (suc n) old =
@@ -148,7 +148,7 @@ module _ (file : List ℕ) where
 
   -- W-205, "Old traces read as caller 0": a file with a right header and old events is accepted, and all its callers are 0
   pub old_traces : headed file ≡ true → ((i : ℕ) → i < event_count file → OldEvent file i)
-      → (reading file ≡ Trace (header_of file)) × ((i : ℕ) → (get_or (content file).events i no_event).caller ≡ 0)
+      → (reading file ≡ Ok (header_of file)) × ((i : ℕ) → (get_or (content file).events i no_event).caller ≡ 0)
   unfolding reading answer_on content
   old_traces h old =
       let all : (j : ℕ) → 0 ≤ j → j < 0 + event_count file → OldEvent file j = λ j l u. old j (omega arith) in

@@ -1,5 +1,4 @@
 pub mod NumberLaws
-pub mod HeaderLaws
 pub mod EventLaws
 pub mod ReadLaws
 pub mod LowBytes

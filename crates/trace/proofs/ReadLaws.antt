@@ -8,34 +8,31 @@ use native.Mathlib.Omega.{arith}
 use borrow.Author.Tests.{lt-leb, le-leb}
 use lib.ListN.{length, get_or, take, drop, length-drop, drop_of_length-le, get_or-eq_default}
 use lib.Seq.{take_all}
+use Rattle.std.specs.Prelude.{Option, Some, None, Ok, Err}
 use Rattle.laws.proofs.Tests.{not_true, not_false}
 use Rattle.trace.specs.declared.Event.{Event}
-use Rattle.trace.specs.declared.Answer.TheVariants.{Trace, BadHeader, BadEvent}
+use Rattle.trace.specs.declared.Refusal.TheVariants.{WrongHeader, BadEvent}
 use Rattle.trace.specs.Trace.{capacity_of, overflow_of, event_count, byte_count, byte_offset, headed, first_bad, answer_on, reading, header_of, event_at}
 use Rattle.trace.specs.Content.{content, events_from, no_event, bytes_place, moved_on}
 
 module _ (file : List ℕ) (t : Bool) (e : t ≡ headed file) where
-  pub header_wrong : not t ≡ true → BadHeader ≡ reading file
+  pub header_wrong : not t ≡ true → Err WrongHeader ≡ reading file
   unfolding reading answer_on
   header_wrong h = simp (← e, not_true t h)
 
-  module _ (h : not t ≡ false) (n : ℕ) (p : n ≡ event_count file) (bad : ℕ) (q : bad ≡ first_bad file 0 n) where
-    by_bad : (b : ℕ) → bad ≡ b → answer_on true b (header_of file) ≡ reading file
+  module _ (h : not t ≡ false) (n : ℕ) (p : n ≡ event_count file) (bad : Option ℕ) (q : bad ≡ first_bad file 0 n) where
+    by_bad : (b : Option ℕ) → bad ≡ b → answer_on true b (header_of file) ≡ reading file
     unfolding reading
     by_bad b k = rw (← e, not_false t h, ← p, ← q, k) refl
 
-    pub event_bad : (bad ≡ 0 → ⊥) → BadEvent bad ≡ reading file
+    pub event_bad : (b : ℕ) → bad ≡ Some b → Err (BadEvent b) ≡ reading file
     unfolding answer_on
-    event_bad k = go bad refl
-      where
-        go : (b : ℕ) → bad ≡ b → BadEvent b ≡ reading file
-        go zero z = absurd (k z)
-        go (suc b) z = by_bad (suc b) z
+    event_bad b k = by_bad (Some b) k
 
-    pub accepted : bad ≡ 0 → (capacity overflow bytes : ℕ) → capacity ≡ capacity_of file → overflow ≡ overflow_of file → bytes ≡ byte_count file
-        → Trace (record { capacity = capacity; overflow = overflow; events = n; bytes = bytes }) ≡ reading file
+    pub accepted : bad ≡ None → (capacity overflow bytes : ℕ) → capacity ≡ capacity_of file → overflow ≡ overflow_of file → bytes ≡ byte_count file
+        → Ok (record { capacity = capacity; overflow = overflow; events = n; bytes = bytes }) ≡ reading file
     unfolding answer_on
-    accepted k capacity overflow bytes c o b = rw (c, o, b, p) (by_bad 0 k)
+    accepted k capacity overflow bytes c o b = rw (c, o, b, p) (by_bad None k)
 
 -- the events of a file, by their index
 pub length_events : (file : List ℕ) (a n : ℕ) → length (events_from file a n) ≡ n
@@ -60,19 +57,19 @@ module _ (file : List ℕ) (n : ℕ) (p : n ≡ event_count file) (i : ℕ) wher
       let z : 0 + i ≡ i = omega arith in
       q ∙ sym (rw z at (get_d_events file 0 (event_count file) i no_event (rw (← p) h)))
 
-module _ (file : List ℕ) (x : ℕ) (p : x ≡ byte_offset file) (at : ℕ) (q : at ≡ x) where
+module _ (file : List ℕ) (at : ℕ) (p : at ≡ byte_offset file) where
   pub no_bytes : length file < at → [] ≡ (content file).bytes
   unfolding content
   no_bytes h = let k : length file ≤ byte_offset file = omega arith in sym (drop_of_length-le file k)
 
   pub some_bytes : at ≤ length file → take (length file - at) (drop at file) ≡ (content file).bytes
   unfolding content
-  some_bytes h = rw (← p, ← q) (take_all (length file - at) (drop at file) (rw (length-drop at file) (omega arith)))
+  some_bytes h = rw (← p) (take_all (length file - at) (drop at file) (rw (length-drop at file) (omega arith)))
 
   pub no_place : length file < at → (a : ℕ × ℕ) → moved_on a 0 ≡ moved_on a (bytes_place file)
   unfolding bytes_place
-  no_place h a = simp (← p, ← q, lt-leb at (length file) h)
+  no_place h a = simp (← p, lt-leb at (length file) h)
 
   pub some_place : at ≤ length file → (a : ℕ × ℕ) → moved_on a at ≡ moved_on a (bytes_place file)
   unfolding bytes_place
-  some_place h a = simp (← p, ← q, le-leb at (length file) h)
+  some_place h a = simp (← p, le-leb at (length file) h)

@@ -8,6 +8,7 @@ use native.Mathlib.Omega.{arith}
 use borrow.Author.Tests.{eqb-true, le-leb}
 use lib.ListN.{length, get_or, drop, length-drop, take-append-drop}
 use lib.Seq.{drop-drop}
+use Rattle.std.specs.Prelude.{None}
 use Rattle.laws.specs.Lists.{part}
 use Rattle.laws.proofs.Lists.{part_add, part_none}
 use Rattle.laws.proofs.Tests.{both_true, both, eqb_and}
@@ -63,7 +64,7 @@ module _ (file : List ℕ) (bytes : Bytes file) where
       join (sym four) (number_written file (event_place i + 4) bytes (omega arith)) ∙ sym (part_add file (event_place i) 4 4)
 
   -- good events, written, are their bytes of the file
-  events_written : (i n : ℕ) → event_place (i + n) ≤ length file → first_bad file i n ≡ 0
+  events_written : (i n : ℕ) → event_place (i + n) ≤ length file → first_bad file i n ≡ None
       → events_bytes (events_from file i n) ≡ part file (event_place i) (8 * n)
   unfolding events_bytes events_from
   events_written i zero h e = sym (part_none file (event_place i))
@@ -91,7 +92,7 @@ module _ (file : List ℕ) (bytes : Bytes file) where
         let same : header_numbers (content file) ≡ numbers_from file 0 6 = cc in
         ap numbers_bytes same ∙ numbers_written 0 6 (omega arith)
 
-    pub file_written : first_bad file 0 (event_count file) ≡ 0 → written (content file) ≡ file
+    pub file_written : first_bad file 0 (event_count file) ≡ None → written (content file) ≡ file
     unfolding written content
     file_written e =
         let last = h.bytes_last in
@@ -116,7 +117,7 @@ module _ (file : List ℕ) (bytes : Bytes file) where
         (le-leb (event_place (length (content file).events) + length (content file).bytes) file_limit (omega arith)))
 
   -- good events are right
-  events_right : (i n : ℕ) → first_bad file i n ≡ 0 → first_wrong i (events_from file i n) ≡ 0
+  events_right : (i n : ℕ) → first_bad file i n ≡ None → first_wrong i (events_from file i n) ≡ None
   unfolding events_from first_wrong good_at
   events_right i zero e = refl
   events_right i (suc n) e =
@@ -130,8 +131,8 @@ module _ (file : List ℕ) (bytes : Bytes file) where
   events_narrow i (suc n) zero = number_below file (event_place i + 4) bytes
   events_narrow i (suc n) (suc j) = events_narrow (suc i) n j
 
-  pub content_checked : headed file ≡ true → first_bad file 0 (event_count file) ≡ 0 → checked (content file) ≡ reading file
+  pub content_checked : headed file ≡ true → first_bad file 0 (event_count file) ≡ None → checked (content file) ≡ reading file
   unfolding checked reading content
   content_checked p q =
       let h = headed_use file p in
-      rw (content_fits h, p, q, events_right 0 (event_count file) q) (ap (answer_on true 0) (header_same file h))
+      rw (content_fits h, p, q, events_right 0 (event_count file) q) (ap (answer_on true None) (header_same file h))

@@ -9,9 +9,9 @@ use lib.ListN.{length, get_or, drop, length-append}
 use lib.Seq.{get_or-append-add, get_or_at, drop_at}
 use Rattle.laws.specs.Tests.{pick}
 use Rattle.laws.proofs.Tests.{both, leb_and}
+use Rattle.std.specs.Prelude.{Option, Some, Ok}
 use Rattle.trace.specs.declared.Event.{Event}
 use Rattle.trace.specs.declared.Header.{Header}
-use Rattle.trace.specs.declared.Answer.TheVariants.{Trace}
 use Rattle.trace.specs.Trace.{size_limit, file_limit, number_at, event_count, byte_offset, event_place, event_at, filler_zero, right, good_at, first_bad, header_of, reading}
 use Rattle.trace.specs.Content.{Content, content, events_from, low_bytes, event_bytes, events_bytes, numbers_bytes, header_numbers, header_for, written, fits, first_wrong, checked, Narrow}
 use Rattle.trace.proofs.LowBytes.{length_low, number_head, number_skip}
@@ -92,7 +92,7 @@ events_there (e ∷ es) pre a rest p small =
       ap₂ (λ (x : Event) (r : List Event). x ∷ r) (event_there pre a p e more (small 0))
           (subst (λ (f : List ℕ). events_from f (suc a) (length es) ≡ es) (sym moved) after.0),
       rw (good_there pre a p e more (small 0))
-          (ap (λ (n : ℕ). pick (right e) n (suc a))
+          (ap (λ (n : Option ℕ). pick (right e) n (Some (suc a)))
           (subst (λ (f : List ℕ). first_bad f (suc a) (length es) ≡ first_wrong (suc a) es) (sym moved) after.1)),
     ) in
     subst
@@ -170,8 +170,8 @@ module _ (c : Content) where
     answer_there f = rw (headed_make (written c) header_right, all_there.1, header_there, f) refl
 
 -- a content that passes the tests of 9 and 10: its file is accepted, and holds it
-pub written_read : (c : Content) (h : Header) → checked c ≡ Trace h → Narrow c.events
-    → (reading (written c) ≡ Trace h) × (content (written c) ≡ c)
+pub written_read : (c : Content) (h : Header) → checked c ≡ Ok h → Narrow c.events
+    → (reading (written c) ≡ Ok h) × (content (written c) ≡ c)
 unfolding checked fits
 written_read c h p n =
     let f = (accepted_only (fits c) (first_wrong 0 c.events) _ h p).0 in

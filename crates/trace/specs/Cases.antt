@@ -1,10 +1,11 @@
 -- The file of SPECIFICATION 12, files that differ from it in a byte or two, what reading each must give, and the callers read.
 -- proofs/Cases.antt has the theorems.
-use Rattle.std.specs.Prelude.{List, [], ◌∷◌, ◌++◌, map, ℕ, set, take}
+use Rattle.std.specs.Prelude.{List, [], ◌∷◌, ◌++◌, map, ℕ, set, take, Result, Ok, Err}
 use Rattle.laws.specs.Lists.{part}
 use Rattle.trace.specs.declared.Event.{Event}
-use Rattle.trace.specs.declared.Answer.{Answer}
-use Rattle.trace.specs.declared.Answer.TheVariants.{Trace, BadHeader, BadEvent}
+use Rattle.trace.specs.declared.Header.{Header}
+use Rattle.trace.specs.declared.Refusal.{Refusal}
+use Rattle.trace.specs.declared.Refusal.TheVariants.{WrongHeader, BadEvent}
 use Rattle.trace.specs.Trace.{little, number_at, complete, sized, in_order, ended, headed, filler_zero, has_caller, caller_right, right, good_at, first_bad, answer_on, reading}
 use Rattle.trace.specs.Content.{content, events_from}
 
@@ -42,49 +43,49 @@ example = header ++ (events ++ (97 ∷ 98 ∷ 99 ∷ 100 ∷ 101 ∷ 102 ∷ 103
 -- a file, and what reading it must give
 pub record Case : Type 0 where
   pub file : List ℕ
-  pub gives : Answer
+  pub gives : Result Header Refusal
 
 infix 4 ◌▸◌
-abbrev pub ◌▸◌ : List ℕ → Answer → Case
+abbrev pub ◌▸◌ : List ℕ → Result Header Refusal → Case
 file ▸ gives = record { file = file; gives = gives }
 
 -- the example with these sizes is accepted
-abbrev pub accepted : ℕ → ℕ → Answer
-accepted capacity overflow = Trace (record { capacity = capacity; overflow = overflow; events = 12; bytes = 10 })
+abbrev pub accepted : ℕ → ℕ → Result Header Refusal
+accepted capacity overflow = Ok (record { capacity = capacity; overflow = overflow; events = 12; bytes = 10 })
 
 unfoldable pub table : List Case
 table =
     (example ▸ accepted 16 12)
     -- no file, and half a header
-    ∷ ([] ▸ BadHeader)
-    ∷ (take 12 header ▸ BadHeader)
+    ∷ ([] ▸ Err WrongHeader)
+    ∷ (take 12 header ▸ Err WrongHeader)
     -- sizes of 16,384 (0x4000) and one more
     ∷ (set (set example 0 0) 1 64 ▸ accepted 16384 12)
-    ∷ (set (set example 0 1) 1 64 ▸ BadHeader)
+    ∷ (set (set example 0 1) 1 64 ▸ Err WrongHeader)
     ∷ (set (set example 4 0) 5 64 ▸ accepted 16 16384)
-    ∷ (set (set example 4 1) 5 64 ▸ BadHeader)
+    ∷ (set (set example 4 1) 5 64 ▸ Err WrongHeader)
     -- the two offsets, and the end of the file
-    ∷ (set example 12 32 ▸ BadHeader)
-    ∷ (set example 20 121 ▸ BadHeader)
-    ∷ (set example 16 9 ▸ BadHeader)
-    ∷ (example ++ (0 ∷ []) ▸ BadHeader)
+    ∷ (set example 12 32 ▸ Err WrongHeader)
+    ∷ (set example 20 121 ▸ Err WrongHeader)
+    ∷ (set example 16 9 ▸ Err WrongHeader)
+    ∷ (example ++ (0 ∷ []) ▸ Err WrongHeader)
     -- kinds 0 and 6, each filler byte, and a take's number
-    ∷ (set example 24 0 ▸ BadEvent 1)
-    ∷ (set example 112 6 ▸ BadEvent 12)
-    ∷ (set example 34 1 ▸ BadEvent 2)
-    ∷ (set example 35 1 ▸ BadEvent 2)
-    ∷ (set example 47 1 ▸ BadEvent 3)
+    ∷ (set example 24 0 ▸ Err (BadEvent 1))
+    ∷ (set example 112 6 ▸ Err (BadEvent 12))
+    ∷ (set example 34 1 ▸ Err (BadEvent 2))
+    ∷ (set example 35 1 ▸ Err (BadEvent 2))
+    ∷ (set example 47 1 ▸ Err (BadEvent 3))
     -- W-205: callers 3 and 4 of a take and of a release, and caller 1 of a reserve, a commit and a truncate
     ∷ (set example 41 3 ▸ accepted 16 12)
-    ∷ (set example 41 4 ▸ BadEvent 3)
+    ∷ (set example 41 4 ▸ Err (BadEvent 3))
     ∷ (set example 105 3 ▸ accepted 16 12)
-    ∷ (set example 105 4 ▸ BadEvent 11)
-    ∷ (set example 25 1 ▸ BadEvent 1)
-    ∷ (set example 33 1 ▸ BadEvent 2)
-    ∷ (set example 89 1 ▸ BadEvent 9)
+    ∷ (set example 105 4 ▸ Err (BadEvent 11))
+    ∷ (set example 25 1 ▸ Err (BadEvent 1))
+    ∷ (set example 33 1 ▸ Err (BadEvent 2))
+    ∷ (set example 89 1 ▸ Err (BadEvent 9))
     -- the first of two bad events, and 9 before 10
-    ∷ (set (set example 112 6) 47 1 ▸ BadEvent 3)
-    ∷ (set (set example 112 6) 12 32 ▸ BadHeader)
+    ∷ (set (set example 112 6) 47 1 ▸ Err (BadEvent 3))
+    ∷ (set (set example 112 6) 12 32 ▸ Err WrongHeader)
     ∷ []
 
 -- the callers of a file's events, in their order

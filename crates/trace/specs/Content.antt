@@ -1,10 +1,10 @@
 -- What a trace holds, read off a file and written as one; proofs/Inverse.antt has that the two are inverse. `event_at` and
 -- `bytes` give the parts of `content`.
-use Rattle.std.specs.Prelude.{Bool, ◌&&◌, List, [], ◌∷◌, ◌++◌, ℕ, zero, suc, ◌+◌, ◌/◌, ◌%◌, ◌^◌, ◌<◌, ◌≤◌, leb, length, get_or, drop}
+use Rattle.std.specs.Prelude.{Bool, ◌&&◌, List, [], ◌∷◌, ◌++◌, ℕ, zero, suc, ◌+◌, ◌/◌, ◌%◌, ◌^◌, ◌<◌, ◌≤◌, leb, length, get_or, drop, Option, Some, None, Result}
 use Rattle.laws.specs.Tests.{pick}
 use Rattle.trace.specs.declared.Header.{Header}
 use Rattle.trace.specs.declared.Event.{Event}
-use Rattle.trace.specs.declared.Answer.{Answer}
+use Rattle.trace.specs.declared.Refusal.{Refusal}
 use Rattle.trace.specs.Trace.{most_caller, size_limit, file_limit, header_length, capacity_of, overflow_of, event_count, byte_offset, event_place, event_at, right, answer_on}
 
 -- the sizes, the events in their order, and the bytes for the frames
@@ -93,13 +93,13 @@ written c = numbers_bytes (header_numbers c) ++ (events_bytes c.events ++ c.byte
 unfoldable pub fits : Content → Bool
 fits c = leb c.capacity size_limit && (leb c.overflow size_limit && leb (event_place (length c.events) + length c.bytes) file_limit)
 
--- the first event that is not right, counted from 1 with i events before these, and 0 where all are right: the condition of 10
-unfoldable pub first_wrong : ℕ → List Event → ℕ
-first_wrong i [] = 0
-first_wrong i (e ∷ events) = pick (right e) (first_wrong (suc i) events) (suc i)
+-- the first event that is not right, counted from 1 with i events before these, and none where all are right: the condition of 10
+unfoldable pub first_wrong : ℕ → List Event → Option ℕ
+first_wrong i [] = None
+first_wrong i (e ∷ events) = pick (right e) (first_wrong (suc i) events) (Some (suc i))
 
 -- what the tests of 9 and 10 give on c; for a c that passes, what reading its file gives
-unfoldable pub checked : Content → Answer
+unfoldable pub checked : Content → Result Header Refusal
 checked c = answer_on (fits c) (first_wrong 0 c.events) (header_for c)
 
 -- no event's caller is above 3

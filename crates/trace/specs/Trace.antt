@@ -1,12 +1,15 @@
 -- A trace file, SPECIFICATION 9: its numbers, its header, its events, and what reading it gives.
 -- A file is the list of its bytes. `reading` is what `read` answers.
-use Rattle.std.specs.Prelude.{Bool, true, false, ◌&&◌, ◌||◌, List, [], ◌∷◌, ◌≡◌, ℕ, zero, suc, ◌+◌, ◌*◌, ◌≤◌, leb, eqb, length, get_or}
+use Rattle.std.specs.Prelude.{Bool, true, false, ◌&&◌, ◌||◌, List, [], ◌∷◌, ◌≡◌, ℕ, zero, suc, ◌+◌, ◌*◌, ◌≤◌, ◌<◌, ◌⊎◌, leb, eqb, length, get_or, Option, Some, None, Result, Ok, Err, MatchResult}
 use Rattle.laws.specs.Lists.{part}
 use Rattle.laws.specs.Tests.{pick, implies}
 use Rattle.trace.specs.declared.Header.{Header}
 use Rattle.trace.specs.declared.Event.{Event}
-use Rattle.trace.specs.declared.Answer.{Answer}
-use Rattle.trace.specs.declared.Answer.TheVariants.{Trace, BadHeader, BadEvent}
+use Rattle.trace.specs.declared.Kind.{Kind}
+use Rattle.trace.specs.declared.Kind.TheVariants.{Reserve, Commit, Take, Truncate, Release}
+use Rattle.trace.specs.declared.NoKind.{NoKind}
+use Rattle.trace.specs.declared.Refusal.{Refusal}
+use Rattle.trace.specs.declared.Refusal.TheVariants.{WrongHeader, BadEvent}
 
 -- ---- The numbers that SPECIFICATION 9 sets
 
@@ -44,6 +47,18 @@ release_kind = 5
 -- W-205, the greatest caller: "a caller, 0 to 3"
 abbrev pub most_caller : ℕ
 most_caller = 3
+
+-- the byte of a kind
+abbrev pub byte_of : Kind → ℕ
+byte_of Reserve = reserve_kind
+byte_of Commit = commit_kind
+byte_of Take = take_kind
+byte_of Truncate = truncate_kind
+byte_of Release = release_kind
+
+-- what a byte is read as: the kind of that byte, or the byte itself, which is none of the five
+abbrev pub Decodes : ℕ → Result Kind NoKind → Type 0
+Decodes byte r = MatchResult r (λ kind. byte_of kind ≡ byte) (λ e. (e.0 ≡ byte) × ((byte < reserve_kind) ⊎ (release_kind < byte)))
 
 -- ---- Numbers in a file
 
@@ -144,31 +159,35 @@ pub record OldEvent (file : List ℕ) (i : ℕ) : Type 0 where
   pub third_zero : get_or file (event_place i + 3) 0 ≡ 0
   pub take_zero : (event_at file i).kind ≡ take_kind → (event_at file i).number ≡ 0
 
--- the first bad event of the n from index i on, counted from 1, and 0 where all n are good
-unfoldable pub first_bad : List ℕ → ℕ → ℕ → ℕ
-first_bad file i zero = 0
-first_bad file i (suc n) = pick (good_at file i) (first_bad file (suc i) n) (suc i)
+-- the first bad event of the n from index i on, counted from 1, and none where all n are good
+unfoldable pub first_bad : List ℕ → ℕ → ℕ → Option ℕ
+first_bad file i zero = None
+first_bad file i (suc n) = pick (good_at file i) (first_bad file (suc i) n) (Some (suc i))
 
 -- ---- What reading a file gives
 
--- the answer, by whether the header is right, and the first bad event or 0
-unfoldable pub answer_on : Bool → ℕ → Header → Answer
-answer_on false bad header = BadHeader
-answer_on true zero header = Trace header
-answer_on true (suc i) header = BadEvent (suc i)
+-- the answer, by whether the header is right, and the first bad event
+unfoldable pub answer_on : Bool → Option ℕ → Header → Result Header Refusal
+answer_on false bad header = Err WrongHeader
+answer_on true None header = Ok header
+answer_on true (Some i) header = Err (BadEvent i)
 
 -- what reading the file gives: the header is tested before the events
-unfoldable pub reading : List ℕ → Answer
+unfoldable pub reading : List ℕ → Result Header Refusal
 reading file = answer_on (headed file) (first_bad file 0 (event_count file)) (header_of file)
 
--- the number of an answer (SPECIFICATION 3.3), 0 for an accepted file
-abbrev pub refusal_of : Answer → ℕ
-refusal_of (Trace header) = 0
-refusal_of BadHeader = 9
-refusal_of (BadEvent i) = 10
+-- the number of a refusal (SPECIFICATION 3.3)
+abbrev pub number_of : Refusal → ℕ
+number_of WrongHeader = 9
+number_of (BadEvent i) = 10
 
--- the event that it names, counted from 1, and 0 where it names none
-abbrev pub bad_event_of : Answer → ℕ
-bad_event_of (Trace header) = 0
-bad_event_of BadHeader = 0
-bad_event_of (BadEvent i) = i
+-- the number of an answer, 0 for an accepted file
+abbrev pub refusal_of : Result Header Refusal → ℕ
+refusal_of (Ok header) = 0
+refusal_of (Err refusal) = number_of refusal
+
+-- the event that it names, counted from 1, if it names one
+abbrev pub bad_event_of : Result Header Refusal → Option ℕ
+bad_event_of (Ok header) = None
+bad_event_of (Err WrongHeader) = None
+bad_event_of (Err (BadEvent i)) = Some i

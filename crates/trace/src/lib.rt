@@ -3,7 +3,7 @@
 #![tactic(auto)]
 
 ghost use Rattle.std.specs.Prelude.{◌≡◌, ◌+◌, ◌<◌, ◌^◌, get_or};
-ghost use Rattle.trace.specs.Trace.{number_at, sized, in_order, ended, headed, filler_zero, has_caller, caller_right, right, good_at, first_bad, reading, refusal_of, event_place, event_at};
+ghost use Rattle.trace.specs.Trace.{Decodes, number_at, sized, in_order, ended, headed, filler_zero, right, good_at, first_bad, reading, number_of, refusal_of, event_place, event_at};
 ghost use Rattle.trace.specs.Content.{content, no_event, bytes_place, moved_on};
 
 // The largest pool capacity and overflow length.
@@ -17,27 +17,61 @@ const HEADER_LENGTH: usize = 24;
 
 const EVENT_LENGTH: usize = 8;
 
-// The numbers by which a file is refused: its header is wrong, or an event is bad.
-pub const WRONG_HEADER: u8 = 9;
-
-pub const BAD_EVENT: u8 = 10;
-
-// The kinds of an event (SPECIFICATION 9.4).
-pub const RESERVE: u8 = 1;
-
-pub const COMMIT: u8 = 2;
-
-pub const TAKE: u8 = 3;
-
-pub const TRUNCATE: u8 = 4;
-
-pub const RELEASE: u8 = 5;
-
 // The greatest caller of a take or a release.
 pub const MOST_CALLER: u8 = 3;
 
+// The kinds of an event (SPECIFICATION 9.4).
+#[derive(Clone, Copy, Debug, PartialEq, Eq)]
+pub enum Kind {
+    Reserve,
+    Commit,
+    Take,
+    Truncate,
+    Release,
+}
+
+// A byte that is no kind.
+#[derive(Clone, Copy, Debug, PartialEq, Eq)]
+pub struct NoKind(pub u8);
+
+impl TryFrom<u8> for Kind {
+    type Error = NoKind;
+
+    ghost try_from_gives = { Decodes };
+
+    fn try_from(byte: u8) -> Result<Kind, NoKind> {
+        match byte {
+            1 => Ok(Kind::Reserve),
+            2 => Ok(Kind::Commit),
+            3 => Ok(Kind::Take),
+            4 => Ok(Kind::Truncate),
+            5 => Ok(Kind::Release),
+            _ => Err(NoKind(byte)),
+        }
+    }
+}
+
+// Why a file is refused: its header is wrong, or this is the first bad event, counted from 1.
+#[derive(Clone, Copy, Debug, PartialEq, Eq)]
+pub enum Refusal {
+    WrongHeader,
+    BadEvent(u32),
+}
+
+impl Refusal {
+    // Its number (SPECIFICATION 3.3).
+    pub fn number(self) -> u8
+        ensures { result ≡ number_of self }
+    {
+        match self {
+            Refusal::WrongHeader => 9,
+            Refusal::BadEvent(_) => 10,
+        }
+    }
+}
+
 // The numbers of an accepted header: the two sizes, the count of events and the count of bytes.
-#[derive(Clone, Copy)]
+#[derive(Clone, Copy, Debug, PartialEq, Eq)]
 pub struct Header {
     pub capacity: u32,
     pub overflow: u32,
@@ -45,20 +79,13 @@ pub struct Header {
     pub bytes: u32,
 }
 
-// An event: its kind, its caller (of a take or a release; 0 in a good event of another kind) and its number.
-#[derive(Clone, Copy)]
+// An event as it stands in a file, good or not, so that its kind is a byte: that byte, its caller (of a take or a release; 0 in a
+// good event of another kind) and its number.
+#[derive(Clone, Copy, Debug, PartialEq, Eq)]
 pub struct Event {
     pub kind: u8,
     pub caller: u8,
     pub number: u32,
-}
-
-// What reading a file gives: its header's numbers, or that the header is wrong, or the first bad event, counted from 1.
-#[derive(Clone, Copy)]
-pub enum Answer {
-    Trace(Header),
-    BadHeader,
-    BadEvent(u32),
 }
 
 // ---- Numbers and places
@@ -67,17 +94,7 @@ pub enum Answer {
 fn byte_at(file: &[u8], at: usize) -> u8
     ensures { result ≡ get_or file.now at 0 }
 {
-    if at < file.len() {
-        return file[at];
-    }
-    0
-}
-
-// A byte as a wider number.
-fn wide(x: u8) -> u32
-    ensures { (result ≡ x) × (result < 256) }
-{
-    x as u32
+    file.get(at).copied().unwrap_or(0)
 }
 
 // The number of the file whose four bytes, lowest first, stand from a place on.
@@ -85,25 +102,19 @@ fn number(file: &[u8], at: usize) -> u32
     requires { at + 3 < 2 ^ 64 }
     ensures { result ≡ number_at file.now at }
 {
-    let a = wide(byte_at(file, at));
-    let b = wide(byte_at(file, at + 1));
-    let c = wide(byte_at(file, at + 2));
-    let d = wide(byte_at(file, at + 3));
-    a + 256 * b + 65536 * c + 16777216 * d
-}
-
-// A count as a place in the file.
-fn place(x: u32) -> usize
-    ensures { (result ≡ x) × (result < 2 ^ 32) }
-{
-    x as usize
+    u32::from_le_bytes([
+        byte_at(file, at),
+        byte_at(file, at + 1),
+        byte_at(file, at + 2),
+        byte_at(file, at + 3),
+    ])
 }
 
 // Where the event of an index begins.
 fn event_place(index: u32) -> usize
     ensures { (result ≡ event_place index) × (result < 2 ^ 36) }
 {
-    HEADER_LENGTH + EVENT_LENGTH * place(index)
+    HEADER_LENGTH + EVENT_LENGTH * index as usize
 }
 
 // ---- The tests of a header and of events
@@ -112,46 +123,30 @@ fn event_place(index: u32) -> usize
 fn is_sized(file: &[u8]) -> bool
     ensures { result ≡ sized file.now }
 {
-    if SIZE_LIMIT < number(file, 0) {
-        return false;
-    }
-    number(file, 4) <= SIZE_LIMIT
+    number(file, 0) <= SIZE_LIMIT && number(file, 4) <= SIZE_LIMIT
 }
 
 // Do the events follow the header, and the bytes the events?
 fn is_in_order(file: &[u8]) -> bool
     ensures { result ≡ in_order file.now }
 {
-    if place(number(file, 20)) != event_place(number(file, 8)) {
-        return false;
-    }
-    place(number(file, 12)) == HEADER_LENGTH
+    number(file, 20) as usize == event_place(number(file, 8))
+        && number(file, 12) as usize == HEADER_LENGTH
 }
 
 // Is the file within its limit, and does it end after the bytes? The sum is of 64-bit numbers, so that it cannot wrap.
 fn is_ended(file: &[u8]) -> bool
     ensures { result ≡ ended file.now }
 {
-    if FILE_LIMIT < file.len() {
-        return false;
-    }
-    file.len() == place(number(file, 20)) + place(number(file, 16))
+    let end = number(file, 20) as usize + number(file, 16) as usize;
+    file.len() <= FILE_LIMIT && file.len() == end
 }
 
 // Is the header right?
 fn is_headed(file: &[u8]) -> bool
     ensures { result ≡ headed file.now }
 {
-    if file.len() < HEADER_LENGTH {
-        return false;
-    }
-    if !is_sized(file) {
-        return false;
-    }
-    if !is_in_order(file) {
-        return false;
-    }
-    is_ended(file)
+    file.len() >= HEADER_LENGTH && is_sized(file) && is_in_order(file) && is_ended(file)
 }
 
 // The event of an index, counted from 0, with the bytes past the end of the file counted as 0.
@@ -159,13 +154,10 @@ fn event_there(file: &[u8], index: u32) -> Event
     ensures { result ≡ event_at file.now index }
 {
     let at = event_place(index);
-    let kind = byte_at(file, at);
-    let caller = byte_at(file, at + 1);
-    let number = number(file, at + 4);
     Event {
-        kind: kind,
-        caller: caller,
-        number: number,
+        kind: byte_at(file, at),
+        caller: byte_at(file, at + 1),
+        number: number(file, at + 4),
     }
 }
 
@@ -174,112 +166,72 @@ fn filler_is_zero(file: &[u8], index: u32) -> bool
     ensures { result ≡ filler_zero file.now index }
 {
     let at = event_place(index);
-    if byte_at(file, at + 2) != 0 {
-        return false;
-    }
-    byte_at(file, at + 3) == 0
+    byte_at(file, at + 2) == 0 && byte_at(file, at + 3) == 0
 }
 
-// Do events of this kind have a caller: is it a take or a release?
-fn has_caller(kind: u8) -> bool
-    ensures { result ≡ has_caller kind }
-{
-    if kind == TAKE {
-        return true;
-    }
-    kind == RELEASE
-}
-
-// Is the caller one of the four where the kind has one, and 0 where it has none?
-fn is_caller_right(event: Event) -> bool
-    ensures { result ≡ caller_right event }
-{
-    let caller = event.caller;
-    if has_caller(event.kind) {
-        return caller <= MOST_CALLER;
-    }
-    caller == 0
-}
-
-// Is the kind one of the five, the caller right, and a take's number 0?
+// Is the kind one of the five, the caller one of the four where the kind has one and else 0, and a take's number 0?
 fn is_right(event: Event) -> bool
     ensures { result ≡ right event }
 {
-    let kind = event.kind;
-    if kind < RESERVE {
-        return false;
+    match Kind::try_from(event.kind) {
+        Ok(Kind::Take) => event.caller <= MOST_CALLER && event.number == 0,
+        Ok(Kind::Release) => event.caller <= MOST_CALLER,
+        Ok(Kind::Reserve | Kind::Commit | Kind::Truncate) => event.caller == 0,
+        Err(_) => false,
     }
-    if RELEASE < kind {
-        return false;
-    }
-    if !is_caller_right(event) {
-        return false;
-    }
-    if kind == TAKE {
-        return event.number == 0;
-    }
-    true
 }
 
 // Is the event of an index good?
 fn is_good(file: &[u8], index: u32) -> bool
     ensures { result ≡ good_at file.now index }
 {
-    if !filler_is_zero(file, index) {
-        return false;
-    }
-    is_right(event_there(file, index))
+    filler_is_zero(file, index) && is_right(event_there(file, index))
 }
 
-// The first bad one of the first `events` events, counted from 1, and 0 where all are good.
-fn first_bad(file: &[u8], events: u32) -> u32
+// The first bad one of the first `events` events, counted from 1.
+fn first_bad(file: &[u8], events: u32) -> Option<u32>
     ensures { result ≡ first_bad file.now 0 events }
 {
-    let mut i = 0;
-    while i < events {
+    for i in 0..events {
         if !is_good(file, i) {
-            return i + 1;
+            return Some(i + 1);
         }
-        i += 1;
     }
-    0
+    None
 }
 
 // ---- What the replay calls
 
-// What the file is: a trace, with its header's numbers; or refused with 9, the header wrong; or with 10, the first bad event.
-// The header is tested first.
-pub fn read(file: &[u8]) -> Answer
+// The numbers of a trace's header, or why the file is none. The header is tested first.
+pub fn read(file: &[u8]) -> Result<Header, Refusal>
     ensures { result ≡ reading file.now }
 {
     if !is_headed(file) {
-        return Answer::BadHeader;
+        return Err(Refusal::WrongHeader);
     }
     let events = number(file, 8);
-    let bad = first_bad(file, events);
-    if bad != 0 {
-        return Answer::BadEvent(bad);
+    if let Some(event) = first_bad(file, events) {
+        return Err(Refusal::BadEvent(event));
     }
-    Answer::Trace(Header {
+    Ok(Header {
         capacity: number(file, 0),
         overflow: number(file, 4),
-        events: events,
+        events,
         bytes: number(file, 16),
     })
 }
 
 // The number of an answer (SPECIFICATION 3.3): 9 or 10, and 0 for an accepted file.
-pub fn refusal(answer: Answer) -> u8
+pub fn answer_number(answer: Result<Header, Refusal>) -> u8
     ensures { result ≡ refusal_of answer }
 {
     match answer {
-        Answer::Trace(_) => 0,
-        Answer::BadHeader => WRONG_HEADER,
-        Answer::BadEvent(_) => BAD_EVENT,
+        Ok(_) => 0,
+        Err(refusal) => refusal.number(),
     }
 }
 
-// The event of an index, counted from 0, and kind 0 where the file has no event of that index.
+// The event of an index, counted from 0, and kind 0 where the file has no event of that index. Not an Option: it was public, and could not fail.
 pub fn event_at(file: &[u8], index: u32) -> Event
     ensures { result ≡ get_or (content file.now).events index no_event }
 {
@@ -298,7 +250,7 @@ pub fn bytes(file: &[u8]) -> &[u8]
     ensures result_value { result.now ≡ (content file.now).bytes }
     ensures ref_ptr_value { result.ref_ptr ≡ moved_on file.entry.ref_ptr (bytes_place file.now) }
 {
-    let at = place(number(file, 20));
+    let at = number(file, 20) as usize;
     if file.len() < at {
         return &file[0..0];
     }

@@ -2,8 +2,8 @@
 use Rattle.std.proofs.Common.{◌≡◌, ◌-◌, ◌≤◌, length}
 use Rattle.poolreplay.proofs.read_input.Given as goal
 
-abbrev pub invariant-loop-at : goal.invariant-loop-at
-invariant-loop-at g l = (l.at ≤ length l.file) × (length l.file ≡ length l.initial.file)
+abbrev pub invariant-loop-length : goal.invariant-loop-length
+invariant-loop-length g l = (l.length ≤ length l.file) × (length l.file ≡ length l.initial.file)
 
-abbrev pub decreases-loop-at : goal.decreases-loop-at
-decreases-loop-at g l = length l.file - l.at
+abbrev pub decreases-loop-length : goal.decreases-loop-length
+decreases-loop-length g l = length l.file - l.length

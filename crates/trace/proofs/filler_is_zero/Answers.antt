@@ -1,9 +1,13 @@
--- `filler_is_zero` meets its contract. Each return knows the filler bytes tested on the way to it. Assumes nothing.
-use Rattle.trace.proofs.EventLaws.{first_filler, last_filler}
+-- `filler_is_zero` meets its contract. The two tests are those of the definition. Assumes nothing.
+use native.Mathlib.Omega.{arith}
+use Rattle.std.proofs.lemmas.Bool.Decides.{nat_tests}
+use Rattle.trace.specs.Trace.{filler_zero}
 use Rattle.trace.proofs.filler_is_zero.Goals as goal
 
-pub returns-then-byte_at-ne0 : goal.returns-then-byte_at-ne0
-returns-then-byte_at-ne0 c = search first_filler
+pub returns-then-byte_at-eq0 : goal.returns-then-byte_at-eq0
+unfolding filler_zero
+returns-then-byte_at-eq0 c = grind (arith, nat_tests)
 
-pub returns : goal.returns
-returns c = search last_filler
+pub returns-else-byte_at-eq0 : goal.returns-else-byte_at-eq0
+unfolding filler_zero
+returns-else-byte_at-eq0 c = grind (arith, nat_tests)

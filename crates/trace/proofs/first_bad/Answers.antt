@@ -1,10 +1,7 @@
--- `first_bad` meets its contract. While the events before index i are good, the first bad event is the first bad one from i on; what is left of the count falls. Assumes nothing.
+-- `first_bad` meets its contract. While the events before index i are good, the first bad event is the first bad one from i on. Assumes nothing.
 use borrow.Author.Rules.{rules}
-use Rattle.trace.proofs.EventLaws.{none_bad, good_more, bad_here, all_good}
+use Rattle.trace.proofs.EventLaws.{good_more, bad_here, all_good}
 use Rattle.trace.proofs.first_bad.Goals as goal
-
-pub loop-i-init : goal.loop-i-init
-loop-i-init c = search (none_bad, rules)
 
 pub returns-then-not-is_good : goal.returns-then-not-is_good
 returns-then-not-is_good c = search bad_here

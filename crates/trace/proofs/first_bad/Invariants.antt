@@ -5,6 +5,3 @@ use Rattle.trace.proofs.first_bad.Given as goal
 
 abbrev pub invariant-loop-i : goal.invariant-loop-i
 invariant-loop-i l = (l.i ≤ l.events) × (first_bad l.file 0 l.events ≡ first_bad l.file l.i (l.events - l.i))
-
-abbrev pub decreases-loop-i : goal.decreases-loop-i
-decreases-loop-i l = l.events - l.i

@@ -1,9 +1,13 @@
--- `is_ended` meets its contract. A file that is too long is refused; of another the end of its bytes decides. Assumes nothing.
-use Rattle.trace.proofs.HeaderLaws.{too_long, not_too_long}
+-- `is_ended` meets its contract. The two tests are those of the definition. Assumes nothing.
+use native.Mathlib.Omega.{arith}
+use Rattle.std.proofs.lemmas.Bool.Decides.{nat_tests}
+use Rattle.trace.specs.Trace.{ended}
 use Rattle.trace.proofs.is_ended.Goals as goal
 
-pub returns-then-file-gt-FILE_LIMIT : goal.returns-then-file-gt-FILE_LIMIT
-returns-then-file-gt-FILE_LIMIT c = search too_long
+pub returns-then-file-le-FILE_LIMIT : goal.returns-then-file-le-FILE_LIMIT
+unfolding ended
+returns-then-file-le-FILE_LIMIT c = grind (arith, nat_tests)
 
-pub returns : goal.returns
-returns c = search not_too_long
+pub returns-else-file-le-FILE_LIMIT : goal.returns-else-file-le-FILE_LIMIT
+unfolding ended
+returns-else-file-le-FILE_LIMIT c = grind (arith, nat_tests)

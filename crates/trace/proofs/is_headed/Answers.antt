@@ -1,15 +1,13 @@
--- `is_headed` meets its contract. Each refusal knows the clause that fails and those before it that hold; the last clause decides. Assumes nothing.
-use Rattle.trace.proofs.HeaderLaws.{incomplete, not_sized, not_in_order, in_order_lem}
+-- `is_headed` meets its contract. The four tests are those of the definition. Assumes nothing.
+use native.Mathlib.Omega.{arith}
+use Rattle.std.proofs.lemmas.Bool.Decides.{nat_tests}
+use Rattle.trace.specs.Trace.{complete, headed}
 use Rattle.trace.proofs.is_headed.Goals as goal
 
-pub returns-then-file-lt-HEADER_LENGTH : goal.returns-then-file-lt-HEADER_LENGTH
-returns-then-file-lt-HEADER_LENGTH c = search incomplete
+pub returns-then-is_in_order : goal.returns-then-is_in_order
+unfolding headed complete
+returns-then-is_in_order c = grind (arith, nat_tests)
 
-pub returns-then-not-is_sized : goal.returns-then-not-is_sized
-returns-then-not-is_sized c = search not_sized
-
-pub returns-then-not-is_in_order : goal.returns-then-not-is_in_order
-returns-then-not-is_in_order c = search not_in_order
-
-pub returns : goal.returns
-returns c = search in_order_lem
+pub returns-else-is_in_order : goal.returns-else-is_in_order
+unfolding headed complete
+returns-else-is_in_order c = grind (arith, nat_tests)

@@ -1,9 +1,13 @@
--- `is_in_order` meets its contract. A wrong byte offset refuses; at a right one the event offset decides. Assumes nothing.
-use Rattle.trace.proofs.HeaderLaws.{bytes_elsewhere, bytes_next}
+-- `is_in_order` meets its contract. The two tests are those of the definition. Assumes nothing.
+use native.Mathlib.Omega.{arith}
+use Rattle.std.proofs.lemmas.Bool.Decides.{nat_tests}
+use Rattle.trace.specs.Trace.{in_order}
 use Rattle.trace.proofs.is_in_order.Goals as goal
 
-pub returns-then-place-event_place : goal.returns-then-place-event_place
-returns-then-place-event_place c = search bytes_elsewhere
+pub returns-then-number-event_place : goal.returns-then-number-event_place
+unfolding in_order
+returns-then-number-event_place c = grind (arith, nat_tests)
 
-pub returns : goal.returns
-returns c = search bytes_next
+pub returns-else-number-event_place : goal.returns-else-number-event_place
+unfolding in_order
+returns-else-number-event_place c = grind (arith, nat_tests)

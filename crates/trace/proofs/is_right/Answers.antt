@@ -1,18 +1,25 @@
--- `is_right` meets its contract. Each return knows the tests of the kind and of the caller on the way to it. Assumes nothing.
-use Rattle.trace.proofs.EventLaws.{kind_low, kind_high, caller_wrong, take_zero, other_kind}
+-- `is_right` meets its contract. Each arm knows the kind. Assumes nothing.
+use native.Mathlib.Omega.{arith}
+use Rattle.std.proofs.lemmas.Bool.Decides.{nat_tests}
+use Rattle.trace.specs.Trace.{right, caller_right, has_caller}
 use Rattle.trace.proofs.is_right.Goals as goal
 
-pub returns-then-kind-lt-RESERVE : goal.returns-then-kind-lt-RESERVE
-returns-then-kind-lt-RESERVE c = search kind_low
+pub returns-then-event-le-MOST_CALLER : goal.returns-then-event-le-MOST_CALLER
+unfolding right caller_right has_caller
+returns-then-event-le-MOST_CALLER c = grind (arith, nat_tests)
 
-pub returns-then-kind-gt-RELEASE : goal.returns-then-kind-gt-RELEASE
-returns-then-kind-gt-RELEASE c = search kind_high
+pub returns-else-event-le-MOST_CALLER : goal.returns-else-event-le-MOST_CALLER
+unfolding right caller_right has_caller
+returns-else-event-le-MOST_CALLER c = grind (arith, nat_tests)
 
-pub returns-then-not-is_caller_right : goal.returns-then-not-is_caller_right
-returns-then-not-is_caller_right c = search caller_wrong
+pub returns-in-Ok-Release : goal.returns-in-Ok-Release
+unfolding right caller_right has_caller
+returns-in-Ok-Release c = grind (arith, nat_tests)
 
-pub returns-then-kind-eq-TAKE : goal.returns-then-kind-eq-TAKE
-returns-then-kind-eq-TAKE c = search take_zero
+pub returns-in-Ok-Reserve : goal.returns-in-Ok-Reserve
+unfolding right caller_right has_caller
+returns-in-Ok-Reserve c = grind (arith, nat_tests)
 
-pub returns : goal.returns
-returns c = search other_kind
+pub returns-in-Err : goal.returns-in-Err
+unfolding right caller_right has_caller
+returns-in-Err c = grind (arith, nat_tests)

@@ -1,9 +1,13 @@
--- `is_sized` meets its contract. A large capacity refuses; within it the overflow decides. Assumes nothing.
-use Rattle.trace.proofs.HeaderLaws.{capacity_large, capacity_within}
+-- `is_sized` meets its contract. The two tests are those of the definition. Assumes nothing.
+use native.Mathlib.Omega.{arith}
+use Rattle.std.proofs.lemmas.Bool.Decides.{nat_tests}
+use Rattle.trace.specs.Trace.{sized}
 use Rattle.trace.proofs.is_sized.Goals as goal
 
-pub returns-then-number-gt-SIZE_LIMIT : goal.returns-then-number-gt-SIZE_LIMIT
-returns-then-number-gt-SIZE_LIMIT c = search capacity_large
+pub returns-then-number-le-SIZE_LIMIT : goal.returns-then-number-le-SIZE_LIMIT
+unfolding sized
+returns-then-number-le-SIZE_LIMIT c = grind (arith, nat_tests)
 
-pub returns : goal.returns
-returns c = search capacity_within
+pub returns-else-number-le-SIZE_LIMIT : goal.returns-else-number-le-SIZE_LIMIT
+unfolding sized
+returns-else-number-le-SIZE_LIMIT c = grind (arith, nat_tests)

@@ -1,4 +1,4 @@
--- `number` meets its contract. Four bytes, each at most 255, add up to the number at that place. Assumes nothing.
+-- `number` meets its contract. Four bytes add up to the number at that place. Assumes nothing.
 use Rattle.trace.proofs.NumberLaws.{four}
 use Rattle.trace.proofs.number.Goals as goal
 

@@ -6,8 +6,11 @@ use Rattle.buffer_pool.proofs.guard.guard.Goals as goal
 pub returns-then-not-sound : goal.returns-then-not-sound
 returns-then-not-sound c = search guard_front
 
+pub invariant_of-slots_sound : goal.invariant_of-slots_sound
+invariant_of-slots_sound c = record { worded = record { most = search front_most; word = search front_word }; back_within = search front_ends }
+
 pub slots_sound-requires : goal.slots_sound-requires
-slots_sound-requires c = search (front_ends, front_most, front_word, front_first)
+slots_sound-requires c = search front_first
 
 pub returns-then-not-slots_sound : goal.returns-then-not-slots_sound
 returns-then-not-slots_sound c = search guard_slots

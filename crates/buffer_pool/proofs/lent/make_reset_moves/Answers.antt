@@ -6,11 +6,11 @@ use Rattle.buffer_pool.proofs.lent.make_reset_moves.Goals as goal
 pub split_off-requires : goal.split_off-requires
 split_off-requires c = (search (brought_pool, rules), search (brought_kept, rules), search (brought_overflow, rules))
 
-pub returns-then-start : goal.returns-then-start
-returns-then-start c = search reset_brought
+pub returns-in-BringsFrame : goal.returns-in-BringsFrame
+returns-in-BringsFrame c = search reset_brought
 
 pub move_raw_at_offset-requires : goal.move_raw_at_offset-requires
 move_raw_at_offset-requires c = search (reset_to_inside, rules)
 
-pub returns : goal.returns
-returns c = search reset_moved
+pub returns-in-Nothing : goal.returns-in-Nothing
+returns-in-Nothing c = search reset_moved

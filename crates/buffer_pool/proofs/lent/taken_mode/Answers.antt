@@ -2,11 +2,5 @@
 use mathlib.Core.Path.{refl}
 use Rattle.buffer_pool.proofs.lent.taken_mode.Goals as goal
 
-pub returns-in-Back : goal.returns-in-Back
-returns-in-Back c = rw c.in-Back.is refl
-
 pub returns-in-Front : goal.returns-in-Front
 returns-in-Front c = rw c.in-Front.is refl
-
-pub returns-in-Alloc : goal.returns-in-Alloc
-returns-in-Alloc c = rw c.in-Alloc.is refl

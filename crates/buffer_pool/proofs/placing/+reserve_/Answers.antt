@@ -1,13 +1,10 @@
--- `placing::reserve_` meets its contract: one call is one layer of `place_of`, and the changes still allowed fall. Assumes nothing.
+-- `placing::reserve_` meets its contract. Assumes nothing.
 use borrow.Author.Rules.{rules}
-use Rattle.buffer_pool.proofs.DecidingLaws.{no_change_left, just_entered, step_placeable, step_alloc, step_reaches, places_again, places_here}
+use Rattle.buffer_pool.proofs.DecidingLaws.{no_change_left, step_placeable, reaches_again, places_here, places_again, places_out}
 use Rattle.buffer_pool.proofs.placing.+reserve_.Goals as goal
 
 pub returns-then-left-eq0 : goal.returns-then-left-eq0
 returns-then-left-eq0 t c = search no_change_left
-
-pub returns-then-entered : goal.returns-then-entered
-returns-then-entered t c = search just_entered
 
 pub reserve_-requires : goal.reserve_-requires
 reserve_-requires t c =
@@ -17,15 +14,17 @@ reserve_-requires t c =
       (
         search (step_placeable, rules),
         search rules,
-        λ u k.
-            step_reaches a.n a.starts.now a.lengths.now a.len step (search rules) a.route a.changes a.entered (search rules)
-            (search rules) (search rules) c.on-on.result (search rules) u k,
-        λ u. search (step_alloc, rules),
+        λ j.
+            reaches_again a.n a.entries.now.starts a.entries.now.lengths a.len step (search rules) a.route a.changes (search rules) c.on-on.result (search rules)
+            (search rules) j,
       ),
     )
 
-pub returns-then-step : goal.returns-then-step
-returns-then-step t c = search places_again
+pub returns-in-Stays : goal.returns-in-Stays
+returns-in-Stays t c = search places_here
 
-pub returns : goal.returns
-returns t c = search places_here
+pub returns-in-Changes : goal.returns-in-Changes
+returns-in-Changes t c = search places_again
+
+pub returns-in-GoesOut : goal.returns-in-GoesOut
+returns-in-GoesOut t c = search places_out

@@ -1,12 +1,17 @@
 -- `placing::keeps` meets its contract. Assumes nothing.
-use Rattle.buffer_pool.proofs.Unmoved.{keeps_staying, head_free, tail_decides}
+use native.Mathlib.Omega.{arith}
+use Rattle.std.proofs.lemmas.Bool.Decides.{nat_tests}
+use Rattle.buffer_pool.specs.Deciding.{keeps_in}
 use Rattle.buffer_pool.proofs.placing.keeps.Goals as goal
 
+pub returns-then-leading-eq0 : goal.returns-then-leading-eq0
+unfolding keeps_in
+returns-then-leading-eq0 c = grind (arith, nat_tests)
+
 pub returns-then-stays : goal.returns-then-stays
-returns-then-stays c = search keeps_staying
+unfolding keeps_in
+returns-then-stays c = grind (arith, nat_tests)
 
-pub returns-then-leading-ne0 : goal.returns-then-leading-ne0
-returns-then-leading-ne0 c = search head_free
-
-pub returns : goal.returns
-returns c = search tail_decides
+pub returns-else-leading-eq0 : goal.returns-else-leading-eq0
+unfolding keeps_in
+returns-else-leading-eq0 c = grind (arith, nat_tests)

@@ -1,18 +1,21 @@
 -- `placing::resets` meets its contract. Assumes nothing.
-use Rattle.buffer_pool.proofs.ResetLaws.{resets_live, resets_back, resets_not_back, resets_not_front, resets_empty}
+use native.Mathlib.Omega.{arith}
+use Rattle.std.proofs.lemmas.Bool.Decides.{nat_tests}
+use Rattle.buffer_pool.specs.Placing.{resets}
 use Rattle.buffer_pool.proofs.placing.resets.Goals as goal
 
 pub returns-then-n-ne0 : goal.returns-then-n-ne0
-returns-then-n-ne0 c = search resets_live
+unfolding resets
+returns-then-n-ne0 c = grind (arith, nat_tests)
 
-pub returns-then-n-ne0-2 : goal.returns-then-n-ne0-2
-returns-then-n-ne0-2 c = search resets_back
+pub returns-then-in_overflow : goal.returns-then-in_overflow
+unfolding resets
+returns-then-in_overflow c = grind (arith, nat_tests)
 
-pub returns-in-Back : goal.returns-in-Back
-returns-in-Back c = search resets_not_back
+pub returns-else-in_overflow : goal.returns-else-in_overflow
+unfolding resets
+returns-else-in_overflow c = grind (arith, nat_tests)
 
-pub returns-in-Front : goal.returns-in-Front
-returns-in-Front c = search resets_not_front
-
-pub returns-in-Alloc : goal.returns-in-Alloc
-returns-in-Alloc c = search resets_empty
+pub returns-else-n-eq0 : goal.returns-else-n-eq0
+unfolding resets
+returns-else-n-eq0 c = grind (arith, nat_tests)

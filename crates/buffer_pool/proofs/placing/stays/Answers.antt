@@ -1,12 +1,13 @@
 -- `placing::stays` meets its contract. Assumes nothing.
-use Rattle.buffer_pool.proofs.DecidingLaws.{stays_with_frame, stays_without_back, stays_by_tail}
+use native.Mathlib.Omega.{arith}
+use Rattle.std.proofs.lemmas.Bool.Decides.{nat_tests}
+use Rattle.buffer_pool.specs.Placing.{stays}
 use Rattle.buffer_pool.proofs.placing.stays.Goals as goal
 
-pub returns-then-n-gt0 : goal.returns-then-n-gt0
-returns-then-n-gt0 c = search stays_with_frame
-
 pub returns-then-n-eq0 : goal.returns-then-n-eq0
-returns-then-n-eq0 c = search stays_without_back
+unfolding stays
+returns-then-n-eq0 c = grind (arith, nat_tests)
 
-pub returns : goal.returns
-returns c = search stays_by_tail
+pub returns-else-n-eq0 : goal.returns-else-n-eq0
+unfolding stays
+returns-else-n-eq0 c = grind (arith, nat_tests)

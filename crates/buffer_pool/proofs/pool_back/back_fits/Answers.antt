@@ -1,9 +1,13 @@
 -- `pool_back::back_fits` meets its contract. Assumes nothing.
-use Rattle.buffer_pool.proofs.LayerLaws.{no_bytes, bytes_left}
+use native.Mathlib.Omega.{arith}
+use Rattle.std.proofs.lemmas.Bool.Decides.{nat_tests}
+use Rattle.buffer_pool.specs.Placing.{back_fits}
 use Rattle.buffer_pool.proofs.pool_back.back_fits.Goals as goal
 
-pub returns-then-not-in_bounds : goal.returns-then-not-in_bounds
-returns-then-not-in_bounds c = search no_bytes
+pub returns-then-in_bounds : goal.returns-then-in_bounds
+unfolding back_fits
+returns-then-in_bounds c = grind (arith, nat_tests)
 
-pub returns : goal.returns
-returns c = search bytes_left
+pub returns-else-in_bounds : goal.returns-else-in_bounds
+unfolding back_fits
+returns-else-in_bounds c = grind (arith, nat_tests)

@@ -1,5 +1,5 @@
 -- `pool_back::reserve` meets its contract. Assumes nothing.
-use Rattle.buffer_pool.proofs.LayerLaws.{known_clearable, known_full, back_keeps, back_not_clearable, back_clears_tail, back_clears_head, back_goes_out}
+use Rattle.buffer_pool.proofs.LayerLaws.{known_full, back_keeps, back_not_clearable, back_clears_tail, back_clears_head, back_goes_out}
 use borrow.Author.Rules.{rules}
 use Rattle.buffer_pool.proofs.pool_back.reserve.Goals as goal
 
@@ -9,17 +9,14 @@ returns-then-back_fits c = search back_keeps
 pub returns-then-not-tail_is_clearable : goal.returns-then-not-tail_is_clearable
 returns-then-not-tail_is_clearable c = search back_not_clearable
 
-pub try_clear_tail_unchecked-tail-requires : goal.try_clear_tail_unchecked-tail-requires
-try_clear_tail_unchecked-tail-requires c = search (known_clearable, rules)
+pub returns-in-Some : goal.returns-in-Some
+returns-in-Some c = search (back_clears_tail, c.in-Some.ensures)
 
-pub returns-then-tail : goal.returns-then-tail
-returns-then-tail c = search back_clears_tail
+pub try_clear_head-requires : goal.try_clear_head-requires
+try_clear_head-requires c = search (known_full, rules)
 
-pub try_clear_head-head-requires : goal.try_clear_head-head-requires
-try_clear_head-head-requires c = search (known_full, rules)
-
-pub returns-then-head : goal.returns-then-head
-returns-then-head c = search back_clears_head
+pub returns-in-Some-try_clear_head : goal.returns-in-Some-try_clear_head
+returns-in-Some-try_clear_head c = search (back_clears_head, c.in_default.ensures, c.in-Some-try_clear_head.ensures)
 
 pub returns : goal.returns
-returns c = search back_goes_out
+returns c = search (back_goes_out, c.in_default.ensures, c.in_default-try_clear_head.ensures)

@@ -1,6 +1,5 @@
 -- `pool_front::reserve` meets its contract. Assumes nothing.
-use Rattle.buffer_pool.proofs.FrontLaws.{front_cleared_back, front_cleared_worded, front_cleared_cursor, front_keeps, front_leaves, front_drops, front_drops_leaves}
-use borrow.Author.Rules.{rules}
+use Rattle.buffer_pool.proofs.FrontLaws.{front_keeps, front_leaves, front_drops, front_drops_leaves}
 use Rattle.buffer_pool.proofs.pool_front.reserve.Goals as goal
 
 pub returns-then-front_fits : goal.returns-then-front_fits
@@ -11,9 +10,6 @@ returns-then-f-last c = search front_leaves
 
 pub returns-then-in_bounds : goal.returns-then-in_bounds
 returns-then-in_bounds c = search front_drops
-
-pub leave-requires-2 : goal.leave-requires-2
-leave-requires-2 c = search (front_cleared_back, front_cleared_worded, front_cleared_cursor, rules)
 
 pub returns : goal.returns
 returns c = search front_drops_leaves

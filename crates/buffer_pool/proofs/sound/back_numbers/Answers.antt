@@ -1,16 +1,13 @@
 -- `sound::back_numbers` meets its contract. Assumes nothing.
+use native.Mathlib.Omega.{arith}
+use Rattle.std.proofs.lemmas.Bool.Decides.{nat_tests}
 use Rattle.buffer_pool.specs.Soundness.{back_numbers}
-use borrow.Author.Tests.{eq-eqb, ne_eqb}
 use Rattle.buffer_pool.proofs.sound.back_numbers.Goals as goal
 
-pub returns-then-n-last : goal.returns-then-n-last
+pub returns-then-n-eq0 : goal.returns-then-n-eq0
 unfolding back_numbers
-returns-then-n-last c = search (eq-eqb, ne_eqb)
+returns-then-n-eq0 c = grind (arith, nat_tests)
 
-pub returns-then-n-ne0 : goal.returns-then-n-ne0
+pub returns-else-n-eq0 : goal.returns-else-n-eq0
 unfolding back_numbers
-returns-then-n-ne0 c = search (eq-eqb, ne_eqb)
-
-pub returns : goal.returns
-unfolding back_numbers
-returns c = search (eq-eqb, ne_eqb)
+returns-else-n-eq0 c = grind (arith, nat_tests)

@@ -1,15 +1,21 @@
 -- `sound::framed_within` meets its contract. Assumes nothing.
-use Rattle.buffer_pool.proofs.SoundTestLaws.{frame_past, frame_slot, frame_some, frame_none}
+use native.Mathlib.Omega.{arith}
+use Rattle.std.proofs.lemmas.Bool.Decides.{nat_tests}
+use Rattle.buffer_pool.specs.Soundness.{framed_within}
 use Rattle.buffer_pool.proofs.sound.framed_within.Goals as goal
 
-pub returns-then-not-in_bounds : goal.returns-then-not-in_bounds
-returns-then-not-in_bounds c = search frame_past
-
 pub returns-then-slot_left : goal.returns-then-slot_left
-returns-then-slot_left c = search frame_slot
+unfolding framed_within
+returns-then-slot_left c = grind (arith, nat_tests)
 
-pub returns-then-n-ne0 : goal.returns-then-n-ne0
-returns-then-n-ne0 c = search frame_some
+pub returns-then-n-eq0 : goal.returns-then-n-eq0
+unfolding framed_within
+returns-then-n-eq0 c = grind (arith, nat_tests)
 
-pub returns : goal.returns
-returns c = search frame_none
+pub returns-else-n-eq0 : goal.returns-else-n-eq0
+unfolding framed_within
+returns-else-n-eq0 c = grind (arith, nat_tests)
+
+pub returns-else-in_bounds : goal.returns-else-in_bounds
+unfolding framed_within
+returns-else-in_bounds c = grind (arith, nat_tests)

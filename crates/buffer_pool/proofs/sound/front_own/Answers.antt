@@ -1,19 +1,19 @@
 -- `sound::front_own` meets its contract. Assumes nothing.
-use Rattle.buffer_pool.proofs.SoundTestLaws.{cursor_fails, bytes_fail, frame_fails, own_fails, own_decides}
+use native.Mathlib.Omega.{arith}
+use Rattle.std.proofs.lemmas.Bool.Decides.{nat_tests}
 use borrow.Author.Rules.{rules}
+use Rattle.buffer_pool.specs.SlotPass.{front_own}
+use Rattle.buffer_pool.proofs.SoundTestLaws.{own_order}
 use Rattle.buffer_pool.proofs.sound.front_own.Goals as goal
 
-pub returns-then-n-ne0 : goal.returns-then-n-ne0
-returns-then-n-ne0 c = search cursor_fails
+pub returns-then-own-f : goal.returns-then-own-f
+unfolding front_own
+returns-then-own-f c =
+    let a = c.args in
+    let h = own_order a.n a.entries.now.starts a.entries.now.lengths a.f (search rules) c.last_front-own.result c.last_front-own.ensures.0 c.front_bits.result (search rules)
+    c.in_order.result c.in_order.ensures in
+    grind (arith, nat_tests, h)
 
-pub returns-then-n-f : goal.returns-then-n-f
-returns-then-n-f c = search bytes_fail
-
-pub returns-then-not-framed_within : goal.returns-then-not-framed_within
-returns-then-not-framed_within c = search frame_fails
-
-pub returns-then-f-own : goal.returns-then-f-own
-returns-then-f-own c = search own_fails
-
-pub returns : goal.returns
-returns c = search (own_decides, rules)
+pub returns-else-own-f : goal.returns-else-own-f
+unfolding front_own
+returns-else-own-f c = grind (arith, nat_tests)

@@ -5,8 +5,8 @@ use Rattle.buffer_pool.proofs.sound.in_order.Given as goal
 
 abbrev pub invariant-loop-word : goal.invariant-loop-word
 invariant-loop-word l =
-    (l.word ≡ bits_after l.slots l.live l.i)
-    × (ordered l.slots l.starts l.lengths l.live (l.slots - l.first) l.first l.from l.to ≡ ordered l.slots l.starts l.lengths l.live (l.slots - l.i) l.i l.end l.to)
+    (l.word ≡ bits_after l.state.slots l.state.live l.i)
+    × (ordered l.state.slots l.entries.starts l.entries.lengths l.state.live (l.state.slots - l.first) l.first l.from l.to ≡ ordered l.state.slots l.entries.starts l.entries.lengths l.state.live (l.state.slots - l.i) l.i l.end l.to)
 
 abbrev pub decreases-loop-word : goal.decreases-loop-word
-decreases-loop-word l = l.slots - l.i
+decreases-loop-word l = l.state.slots - l.i

@@ -1,12 +1,13 @@
 -- `sound::is_count` meets its contract. Assumes nothing.
+use native.Mathlib.Omega.{arith}
+use Rattle.std.proofs.lemmas.Bool.Decides.{nat_tests}
 use Rattle.buffer_pool.specs.Soundness.{is_slot_count}
-use borrow.Author.Tests.{eq-eqb, ne_eqb}
 use Rattle.buffer_pool.proofs.sound.is_count.Goals as goal
 
 pub returns-then-slots-eq-POOL_CAPACITY : goal.returns-then-slots-eq-POOL_CAPACITY
 unfolding is_slot_count
-returns-then-slots-eq-POOL_CAPACITY c = search (eq-eqb, ne_eqb)
+returns-then-slots-eq-POOL_CAPACITY c = grind (arith, nat_tests)
 
-pub returns : goal.returns
+pub returns-else-slots-eq-POOL_CAPACITY : goal.returns-else-slots-eq-POOL_CAPACITY
 unfolding is_slot_count
-returns c = search (eq-eqb, ne_eqb)
+returns-else-slots-eq-POOL_CAPACITY c = grind (arith, nat_tests)

@@ -1,15 +1,17 @@
 -- `sound::numbers_sound` meets its contract. Assumes nothing.
-use Rattle.buffer_pool.proofs.SoundTestLaws.{counted_within, not_worded, not_counted, mode_decides}
+use native.Mathlib.Omega.{arith}
+use Rattle.std.proofs.lemmas.Bool.Decides.{nat_tests}
+use Rattle.buffer_pool.specs.SlotPass.{is_back_within, numbers_sound}
 use Rattle.buffer_pool.proofs.sound.numbers_sound.Goals as goal
 
-pub returns-then-not-shaped : goal.returns-then-not-shaped
-returns-then-not-shaped c = search not_worded
-
-pub returns-then-not-counted : goal.returns-then-not-counted
-returns-then-not-counted c = search not_counted
+pub returns-then-counted : goal.returns-then-counted
+unfolding numbers_sound
+returns-then-counted c = grind (arith, nat_tests)
 
 pub mode_numbers-requires : goal.mode_numbers-requires
-mode_numbers-requires c = search counted_within
+unfolding is_back_within
+mode_numbers-requires c = grind (arith, nat_tests)
 
-pub returns : goal.returns
-returns c = search mode_decides
+pub returns-else-counted : goal.returns-else-counted
+unfolding numbers_sound
+returns-else-counted c = grind (arith, nat_tests)

@@ -1,12 +1,20 @@
 -- `sound::parts_sound` meets its contract. Assumes nothing.
-use Rattle.buffer_pool.proofs.SoundTestLaws.{front_most, front_word, front_ends, front_first, front_fails, slots_last}
+use native.Mathlib.Omega.{arith}
+use Rattle.std.proofs.lemmas.Bool.Decides.{nat_tests}
+use Rattle.buffer_pool.specs.SlotPass.{parts_sound}
+use Rattle.buffer_pool.proofs.SoundTestLaws.{front_most, front_word, front_ends, front_first}
 use Rattle.buffer_pool.proofs.sound.parts_sound.Goals as goal
 
-pub returns-then-not-front_sound : goal.returns-then-not-front_sound
-returns-then-not-front_sound c = search front_fails
+pub returns-then-front_sound : goal.returns-then-front_sound
+unfolding parts_sound
+returns-then-front_sound c = grind (arith, nat_tests)
+
+pub invariant_of-slots_sound : goal.invariant_of-slots_sound
+invariant_of-slots_sound c = record { worded = record { most = search front_most; word = search front_word }; back_within = search front_ends }
 
 pub slots_sound-requires : goal.slots_sound-requires
-slots_sound-requires c = search (front_ends, front_most, front_word, front_first)
+slots_sound-requires c = search front_first
 
-pub returns : goal.returns
-returns c = search slots_last
+pub returns-else-front_sound : goal.returns-else-front_sound
+unfolding parts_sound
+returns-else-front_sound c = grind (arith, nat_tests)

@@ -1,13 +1,18 @@
 -- `sound::shaped` meets its contract. Assumes nothing.
-use Rattle.buffer_pool.proofs.SoundTestLaws.{word_sixteen, word_other, word_eight}
-use borrow.Author.Rules.{rules}
+use native.Mathlib.Omega.{arith}
+use Rattle.std.proofs.lemmas.Bool.Decides.{nat_tests}
+use Rattle.buffer_pool.specs.Soundness.{is_slot_count}
+use Rattle.buffer_pool.specs.SlotPass.{word_fits}
 use Rattle.buffer_pool.proofs.sound.shaped.Goals as goal
 
-pub returns-then-slots-eq-MOST_SLOTS : goal.returns-then-slots-eq-MOST_SLOTS
-returns-then-slots-eq-MOST_SLOTS c = search (word_sixteen, rules)
+pub returns-in-16 : goal.returns-in-16
+unfolding word_fits is_slot_count
+returns-in-16 c = grind (arith, nat_tests)
 
-pub returns-then-slots-ne-POOL_CAPACITY : goal.returns-then-slots-ne-POOL_CAPACITY
-returns-then-slots-ne-POOL_CAPACITY c = search (word_other, rules)
+pub returns-in-8 : goal.returns-in-8
+unfolding word_fits is_slot_count
+returns-in-8 c = grind (arith, nat_tests)
 
-pub returns : goal.returns
-returns c = search (word_eight, rules)
+pub returns-in_default : goal.returns-in_default
+unfolding word_fits is_slot_count
+returns-in_default c = grind (arith, nat_tests)

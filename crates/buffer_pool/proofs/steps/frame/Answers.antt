@@ -1,12 +1,10 @@
 -- `steps::frame` meets its contract. Assumes nothing.
-use Rattle.buffer_pool.proofs.StepLaws.{frame_back, frame_front, frame_alloc}
+use borrow.Author.Rules.{rules}
+use Rattle.buffer_pool.proofs.StepLaws.{frame_pool}
 use Rattle.buffer_pool.proofs.steps.frame.Goals as goal
 
 pub returns-in-Back : goal.returns-in-Back
-returns-in-Back c = search frame_back
-
-pub returns-in-Front : goal.returns-in-Front
-returns-in-Front c = search frame_front
+returns-in-Back c = frame_pool c.args.n c.in-Back.is
 
 pub returns-in-Alloc : goal.returns-in-Alloc
-returns-in-Alloc c = search frame_alloc
+returns-in-Alloc c = search rules

@@ -1,11 +1,6 @@
 -- `exports::buffer_pool_frame` meets its contract. Assumes nothing.
-use borrow.Author.Rules.{rules}
-use Rattle.buffer_pool.specs.Moves.{memories}
 use Rattle.buffer_pool_c.proofs.ExportLaws.{frame_as}
 use Rattle.buffer_pool_c.proofs.exports.buffer_pool_frame.Goals as goal
 
 pub returns : goal.returns
-returns c =
-    let a = c.args in
-    rw c.view_result.ensures
-    (frame_as a.held.now (search rules) (memories a.pool.now a.overflow.now) c.numbers_of.result c.numbers_of.ensures c.frame_view-v.result c.frame_view-v.ensures)
+returns c = search frame_as

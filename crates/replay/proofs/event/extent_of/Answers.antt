@@ -1,12 +1,21 @@
--- `event::extent_of` meets its contract. Assumes nothing.
-use Rattle.replay.proofs.EventLaws.{extent_take, extent_release, extent_place}
+-- `event::extent_of` meets its contract. Each arm knows the kind. Assumes nothing.
+use native.Mathlib.Omega.{arith}
+use Rattle.std.proofs.lemmas.Bool.Decides.{nat_tests}
+use Rattle.replay.specs.Run.{extent_of}
 use Rattle.replay.proofs.event.extent_of.Goals as goal
 
-pub returns-then-kind-eq-TAKE : goal.returns-then-kind-eq-TAKE
-returns-then-kind-eq-TAKE c = search extent_take
+pub returns-in-Ok-Take : goal.returns-in-Ok-Take
+unfolding extent_of
+returns-in-Ok-Take c = grind (arith, nat_tests)
 
-pub returns-then-kind-eq-RELEASE : goal.returns-then-kind-eq-RELEASE
-returns-then-kind-eq-RELEASE c = search extent_release
+pub returns-in-Ok-Release : goal.returns-in-Ok-Release
+unfolding extent_of
+returns-in-Ok-Release c = grind (arith, nat_tests)
 
-pub returns : goal.returns
-returns c = search extent_place
+pub returns-in-Ok-Reserve : goal.returns-in-Ok-Reserve
+unfolding extent_of
+returns-in-Ok-Reserve c = grind (arith, nat_tests)
+
+pub returns-in-Ok-Reserve-2 : goal.returns-in-Ok-Reserve-2
+unfolding extent_of
+returns-in-Ok-Reserve-2 c = grind (arith, nat_tests)

@@ -1,24 +1,25 @@
 -- `event::kind_letter` meets its contract. Assumes nothing.
-use borrow.Author.Tests.{eq-eqb, ne_eqb}
+use native.Mathlib.Omega.{arith}
+use Rattle.std.proofs.lemmas.Bool.Decides.{nat_tests}
 use Rattle.replay.specs.Run.{kind_letter}
 use Rattle.replay.proofs.event.kind_letter.Goals as goal
 
-pub returns-then-kind-eq-RESERVE : goal.returns-then-kind-eq-RESERVE
+pub returns-in-Reserve : goal.returns-in-Reserve
 unfolding kind_letter
-returns-then-kind-eq-RESERVE c = search (eq-eqb, ne_eqb)
+returns-in-Reserve c = grind (arith, nat_tests)
 
-pub returns-then-kind-eq-COMMIT : goal.returns-then-kind-eq-COMMIT
+pub returns-in-Commit : goal.returns-in-Commit
 unfolding kind_letter
-returns-then-kind-eq-COMMIT c = search (eq-eqb, ne_eqb)
+returns-in-Commit c = grind (arith, nat_tests)
 
-pub returns-then-kind-eq-TAKE : goal.returns-then-kind-eq-TAKE
+pub returns-in-Take : goal.returns-in-Take
 unfolding kind_letter
-returns-then-kind-eq-TAKE c = search (eq-eqb, ne_eqb)
+returns-in-Take c = grind (arith, nat_tests)
 
-pub returns-then-kind-eq-TRUNCATE : goal.returns-then-kind-eq-TRUNCATE
+pub returns-in-Truncate : goal.returns-in-Truncate
 unfolding kind_letter
-returns-then-kind-eq-TRUNCATE c = search (eq-eqb, ne_eqb)
+returns-in-Truncate c = grind (arith, nat_tests)
 
-pub returns : goal.returns
+pub returns-in-Release : goal.returns-in-Release
 unfolding kind_letter
-returns c = search (eq-eqb, ne_eqb)
+returns-in-Release c = grind (arith, nat_tests)

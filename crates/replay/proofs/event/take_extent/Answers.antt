@@ -1,9 +1,13 @@
 -- `event::take_extent` meets its contract. Assumes nothing.
-use Rattle.replay.proofs.EventLaws.{take_none, take_some}
+use native.Mathlib.Omega.{arith}
+use Rattle.std.proofs.lemmas.Bool.Decides.{nat_tests}
+use Rattle.replay.specs.Run.{take_extent}
 use Rattle.replay.proofs.event.take_extent.Goals as goal
 
-pub returns-then-g-eq0 : goal.returns-then-g-eq0
-returns-then-g-eq0 c = search take_none
+pub returns-then-a-eq0 : goal.returns-then-a-eq0
+unfolding take_extent
+returns-then-a-eq0 c = grind (arith, nat_tests)
 
 pub returns : goal.returns
-returns c = search take_some
+unfolding take_extent
+returns c = grind (arith, nat_tests)

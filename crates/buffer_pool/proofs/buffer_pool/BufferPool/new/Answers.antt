@@ -1,4 +1,4 @@
--- `BufferPool::new` meets its contract. Assumes nothing.
+-- `buffer_pool::BufferPool::new` meets its contract. Assumes nothing.
 use Rattle.buffer_pool.proofs.CallLaws.{new_other_count, new_pool_long, new_overflow_long, new_done_lem}
 use Rattle.buffer_pool.proofs.buffer_pool.BufferPool.new.Goals as goal
 

@@ -5,9 +5,8 @@ use Rattle.buffer_pool.proofs.buffer_pool.BufferPool.slice_mut.Goals as goal
 pub part_mut-requires : goal.part_mut-requires
 part_mut-requires c = search slice_within
 
-pub returns : goal.returns
-returns c =
-    record {
-      result_value = search slice_bytes;
-      ref_ptr_value = search slice_pointer;
-    }
+pub returns-clause-result_value : goal.returns-clause-result_value
+returns-clause-result_value c = search slice_bytes
+
+pub returns-clause-ref_ptr_value : goal.returns-clause-ref_ptr_value
+returns-clause-ref_ptr_value c = search slice_pointer

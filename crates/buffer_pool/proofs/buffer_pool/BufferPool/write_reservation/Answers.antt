@@ -1,14 +1,13 @@
 -- `buffer_pool::BufferPool::write_reservation` meets its contract. Assumes nothing.
 use Rattle.buffer_pool.proofs.ViewPlaces.{reservation_lies}
-use Rattle.buffer_pool.proofs.ViewLaws.{number_there, written_there}
+use Rattle.buffer_pool.proofs.ViewLaws.{told_there, written_there}
 use Rattle.buffer_pool.proofs.buffer_pool.BufferPool.write_reservation.Goals as goal
 
 pub write-requires : goal.write-requires
 write-requires c = search reservation_lies
 
-pub returns : goal.returns
-returns c =
-    record {
-      value = search number_there;
-      memories_after = search written_there;
-    }
+pub returns-clause-value : goal.returns-clause-value
+returns-clause-value c = search told_there
+
+pub returns-clause-memories_after : goal.returns-clause-memories_after
+returns-clause-memories_after c = search written_there

@@ -1,15 +1,16 @@
 -- `numbers::Numbers::slice_view` meets its contract. Assumes nothing.
-use Rattle.buffer_pool.proofs.LentLaws.{few_slots, slice_hidden, slice_unnamed, slice_shown}
+use Rattle.buffer_pool.proofs.CallLaws.{err_is}
+use Rattle.buffer_pool.proofs.LentLaws.{words_fit, back_fits, slice_turned, slice_unnamed, slice_shown}
 use Rattle.buffer_pool.proofs.numbers.Numbers.slice_view.Goals as goal
 
-pub returns-then-number-ne0 : goal.returns-then-number-ne0
-returns-then-number-ne0 c = search slice_hidden
+pub returns-in_err-guard : goal.returns-in_err-guard
+returns-in_err-guard c = search (slice_turned, err_is, c.in_err-guard.ensures.0, c.from_residual.ensures.1)
 
-pub names-requires : goal.names-requires
-names-requires c = search few_slots
+pub invariant_of-t : goal.invariant_of-t
+invariant_of-t c = record { worded = search (words_fit, c.in_ok-guard.ensures.0); back_within = search (back_fits, c.in_ok-guard.ensures.0) }
 
 pub returns-then-not-names : goal.returns-then-not-names
-returns-then-not-names c = search slice_unnamed
+returns-then-not-names c = search (slice_unnamed, c.in_ok-guard.ensures.0)
 
 pub returns : goal.returns
-returns c = search slice_shown
+returns c = search (slice_shown, c.in_ok-guard.ensures.0)

@@ -1,0 +1,6 @@
+-- `calls::resized` meets its contract. Assumes nothing.
+use Rattle.buffer_pool.proofs.LentLaws.{resized_left}
+use Rattle.buffer_pool.proofs.calls.resized.Goals as goal
+
+pub returns-in-Ok : goal.returns-in-Ok
+returns-in-Ok c = resized_left c.args.p c.args.resizing c.in-Ok.r c.in-Ok.is

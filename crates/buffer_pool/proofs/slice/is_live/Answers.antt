@@ -1,6 +1,0 @@
--- `slice::is_live` meets its contract. Assumes nothing.
-use Rattle.laws.proofs.Slots.{live_test}
-use Rattle.buffer_pool.proofs.slice.is_live.Goals as goal
-
-pub returns : goal.returns
-returns c = rw c.mask.ensures (live_test c.args.slots c.args.live c.args.position)
