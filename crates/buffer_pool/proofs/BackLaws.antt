@@ -1,10 +1,10 @@
 -- The tests and numbers of the back, from what the code of pool_back.rt knows where it returns. Assumes nothing.
-use mathlib.Core.Path.{◌≡◌, ap, ap₂, ◌∙◌}
+use mathlib.Core.Path.{◌≡◌, ap, ◌∙◌}
 use Rattle.std.specs.Prelude.{Option, Some, None}
 use mathlib.Core.Bool.{Bool, true, false, not}
 use mathlib.Core.List.{List, []}
 use mathlib.Core.Logic.{◌⊎◌, inl, inr}
-use Prim.Native.Nat.{ℕ, ◌+◌, ◌-◌, ◌≤◌, ◌<◌, max}
+use Prim.Native.Nat.{ℕ, ◌+◌, ◌-◌, ◌≤◌, ◌<◌}
 use native.Mathlib.Omega.{arith}
 use borrow.Author.Tests.{lt-ltb, le-ltb, lt-leb, le-leb, eq-eqb, ne_eqb, leb-true, eqb-true}
 use lib.Dec.{leb}
@@ -71,13 +71,6 @@ module _ (n : Numbers) (f bytes : ℕ) (q : Numbers) where
       → q ≡ numbers_of (head_cleared_to (bare n) f bytes)
   boundary_moves h e =
       e ∙ ap (λ (s : ℕ). numbers_of (placed (bare n) (front f bytes 0) s (n.back_len - (f - n.back_start)) 0 0)) (omega arith)
-
-  pub boundary_stays : f ≤ n.back_start → q ≡ numbers_of (placed (bare n) (front f bytes 0) n.back_start n.back_len 0 0)
-      → q ≡ numbers_of (head_cleared_to (bare n) f bytes)
-  boundary_stays h e =
-      let s : n.back_start ≡ max n.back_start f = omega arith in
-      let k : n.back_len ≡ n.back_len - (f - n.back_start) = omega arith in
-      e ∙ ap₂ (λ (s k : ℕ). numbers_of (placed (bare n) (front f bytes 0) s k 0 0)) s k
 
 module _ (n : Numbers) (S : List ℕ) (f : ℕ) (e : f ≡ count_leading_zeros n.slots n.live) where
   abbrev head : Option Numbers

@@ -23,9 +23,6 @@ unfolding copied part
 copied_more s at i len d d₀ to e h hs hd =
     rw (e, ← get_or-drop at s i 0, add-one) (paste-suc d₀ to (drop at s) i 0 (omega arith) (rw length-drop (omega arith)))
 
-pub copied_all : (s : List ℕ) (at i len : ℕ) (d d₀ : List ℕ) (to : ℕ) → d ≡ copied s at i d₀ to → i ≤ len → len ≤ i → d ≡ copied s at len d₀ to
-copied_all s at i len d d₀ to e h h' = let z : i ≡ len = omega arith in rw z at e
-
 -- ---- A move to a lower place or the same
 
 read_at : (m t : List ℕ) (d i k : ℕ) → d ≤ length m → i ≤ length t → get_or (paste m d t i) (d + i + k) 0 ≡ get_or m (d + i + k) 0
@@ -84,9 +81,6 @@ up_more m m₀ s i l d e h0 h hd hs =
 pub up_all : (m m₀ : List ℕ) (s i l d : ℕ) → m ≡ copied m₀ (s + i) (l - i) m₀ (d + i) → i ≤ 0 → m ≡ moved m₀ s l d
 unfolding moved copied part
 up_all m m₀ s i l d e h = let z : i ≡ 0 = omega arith in simp (z, add-zero, sub-zero) at e
-
-pub down_all : (m m₀ : List ℕ) (s i len d : ℕ) → m ≡ moved m₀ s i d → i ≤ len → len ≤ i → m ≡ moved m₀ s len d
-down_all m m₀ s i len d e h h' = let z : i ≡ len = omega arith in rw z at e
 
 -- ---- Bytes cleared
 

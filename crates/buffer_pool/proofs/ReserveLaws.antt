@@ -97,16 +97,6 @@ module _ (n : Numbers) (s : Start) (pool overflow : List ℕ) where
 
 -- ---- The growth
 
-pub growth_fits : (start end o : ℕ) → (start < end → end ≤ o) → start < end → end ≤ o
-growth_fits start end o k h = k h
-
-pub grows_nothing : (overflow : List ℕ) (start end : ℕ) → end ≤ start → overflow ≡ pick (ltb start end) (zeroed overflow start end) overflow
-grows_nothing overflow start end h = rw (le-ltb start end h) refl
-
-pub grows_some : (overflow left : List ℕ) (start end : ℕ) → start < end → left ≡ zeroed overflow start end
-    → left ≡ pick (ltb start end) (zeroed overflow start end) overflow
-grows_some overflow left start end h e = e ∙ rw (lt-ltb start end h) refl
-
 perform_grows : (pool overflow : List ℕ) (start end : ℕ)
     → perform (grows (ltb start end) start end) (memories pool overflow) ≡ memories pool (pick (ltb start end) (zeroed overflow start end) overflow)
 unfolding perform act
@@ -272,14 +262,6 @@ module _ (n : Numbers) (E : Entries) (W : Whole E) (m : Memories) (g : Ok tt ≡
         let y = sym (settled_filled n S L zeros len) ∙ path_settled _ _ _ (sym i ∙ t) in
         rw (f, frame_filled (numbers_of (offered (bare n) len)) S L zeros n.mode)
         (decided_sum (plain n S L) m len e (unmoved (plain n S L) len) (settled_place (plain n S L) len y) (settled_fits (plain n S L) m len e y))
-
-  module _ (len : ℕ) (u : FastPath) (i : u ≡ fast_path n.slots (bare n) len) (t : u ≡ StartsOver) (a : Numbers) (ga : a ≡ numbers_of (placed (bare n) Back 0 0 0 0))
-      (q : Numbers) (f : q ≡ numbers_of (offered (bare a) len)) where
-    pub over_sum : (frame (bare q)).start + (frame (bare q)).length ≤ 18446744073709551615
-    over_sum =
-        let y = sym (over_filled n S L zeros len) ∙ path_starts_over _ _ _ (sym i ∙ t) in
-        rw (f, ga)
-        (decided_sum (plain n S L) m len e (unmoved (placed (plain n S L) Back 0 0 0 0) len) (over_is (plain n S L) m len e y) (over_fits (plain n S L) m len e))
 
   module _ (len : ℕ) (u : FastPath) (i : u ≡ fast_path n.slots (bare n) len) (t : u ≡ Growing) where
     grows_is : growing n.slots (plain n S L) len ≡ true

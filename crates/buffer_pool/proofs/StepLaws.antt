@@ -1,9 +1,6 @@
 -- What commit, truncate, take and release read off a record, from what the code of steps.rt knows where it returns. Assumes nothing.
 use mathlib.Core.Path.{◌≡◌, sym, ap}
-use Prim.Native.Nat.{◌+◌, ◌≤◌}
-use native.Mathlib.Omega.{arith}
-use mir.Val.{Fits}
-use mir.Syntax.{w64}
+use Prim.Native.Nat.{◌+◌}
 use mathlib.Core.Logic.{◌⊎◌, inl, inr}
 use Rattle.buffer_pool.specs.declared.buffer_pool.PoolFront.{PoolFront}
 use Rattle.buffer_pool.specs.declared.buffer_pool.PoolMode.{PoolMode}
@@ -25,6 +22,3 @@ frame_pool n (inr m) = ap (λ (x : PoolMode). frame_of x (bare n)) (sym m.1)
 module _ (n : Numbers) (f : Place) (e : f ≡ frame_of n.mode (bare n)) where
   pub reservation_as : at f.memory (f.start + f.length) n.reserved ≡ reservation (bare n)
   reservation_as = ap (λ (x : Place). at x.memory (x.start + x.length) n.reserved) e
-
-  pub reservation_fits : (frame_of n.mode (bare n)).start + (frame_of n.mode (bare n)).length ≤ 18446744073709551615 → Fits w64 (f.start + f.length)
-  reservation_fits h = record { fits = rw e (omega arith) }

@@ -1,20 +1,18 @@
 -- The views and the writes, from what the code of views.rt knows where it returns: a refused view is hidden, and another's place
 -- (ViewPlaces.antt) is a part of its memory. Assumes nothing.
-use mathlib.Core.Path.{◌≡◌, refl, ap, ◌∙◌, subst}
+use mathlib.Core.Path.{◌≡◌, refl, ap, ◌∙◌}
 use mathlib.Core.Bool.{Bool, true, false, not}
 use mathlib.Core.List.{List}
-use Prim.Native.Nat.{ℕ, ◌+◌, ◌-◌, ◌≤◌, ◌<◌}
+use Prim.Native.Nat.{ℕ, ◌+◌, ◌-◌, ◌≤◌}
 use native.Mathlib.Nat.{add-sub_cancel_left}
 use lib.Dec.{ltb}
 use lib.ListN.{length, take, drop, set}
-use borrow.Author.Tests.{lt-ltb, le-ltb}
 use Rattle.std.specs.Prelude.{Ok, Result, ⊤}
 use Rattle.laws.specs.Tests.{pick}
 use Rattle.laws.specs.Lists.{part}
 use Rattle.laws.proofs.Tests.{not_true, not_false}
 use Rattle.buffer_pool.specs.declared.slice.Handle.{Handle}
 use Rattle.buffer_pool.specs.declared.buffer_pool.BufferPool.{BufferPool}
-use Rattle.buffer_pool.specs.declared.buffer_pool.Memory.{Memory}
 use Rattle.buffer_pool.specs.declared.buffer_pool.Memory.TheVariants.{Pool, Overflow}
 use Rattle.buffer_pool.specs.declared.buffer_pool.Place.{Place}
 use Rattle.buffer_pool.specs.Moves.{Memories, memories}
@@ -22,7 +20,7 @@ use Rattle.buffer_pool.specs.Steps.{at, frame_of, names}
 use Rattle.buffer_pool.specs.Values.{View, view_place, told}
 use Rattle.buffer_pool.specs.declared.refusals.Refusal.{Refusal}
 use Rattle.buffer_pool.specs.declared.refusals.Refusal.TheVariants.{NotLive}
-use Rattle.buffer_pool.specs.Calls.{guard, shown, hidden, slice_view, memory_at, bytes_at, written, moved_on, place_at, Lies}
+use Rattle.buffer_pool.specs.Calls.{guard, shown, hidden, slice_view, bytes_at, written, moved_on, place_at}
 use Rattle.buffer_pool.proofs.Soundness.{sound_use}
 use Rattle.buffer_pool.proofs.ViewPlaces.{slice_lies, slice_pool}
 use Rattle.buffer_pool.proofs.CallLaws.{through, through_sound, frame_end_lem}
@@ -41,17 +39,11 @@ part_as memory start len = rw add-sub_cancel_left
 
 module _ (pool overflow : List ℕ) (q : Place) where
   module _ (e : q.memory ≡ Pool) where
-    pub lies_pool : Lies (memories pool overflow) q → q.start + q.length ≤ length pool
-    lies_pool h = subst (λ (x : Memory). q.start + q.length ≤ length (memory_at x (memories pool overflow))) e h
-
     pub bytes_pool : (bytes : List ℕ) → bytes ≡ part pool q.start q.length → bytes ≡ bytes_at (memories pool overflow) q
     unfolding bytes_at
     bytes_pool bytes f = f ∙ rw e
 
   module _ (e : q.memory ≡ Overflow) where
-    pub lies_overflow : Lies (memories pool overflow) q → q.start + q.length ≤ length overflow
-    lies_overflow h = subst (λ (x : Memory). q.start + q.length ≤ length (memory_at x (memories pool overflow))) e h
-
     pub bytes_overflow : (bytes : List ℕ) → bytes ≡ part overflow q.start q.length → bytes ≡ bytes_at (memories pool overflow) q
     unfolding bytes_at
     bytes_overflow bytes f = f ∙ rw e
@@ -70,13 +62,6 @@ module _ (pool overflow : ℕ × ℕ) (q : Place) (pointer : ℕ × ℕ) where
 -- a memory with byte i of the place set; past the place's end, none: what `set_byte` leaves
 abbrev set_at : List ℕ → Place → ℕ → ℕ → List ℕ
 set_at memory q i byte = pick (ltb i q.length) (set memory (q.start + i) byte) memory
-
-module _ (memory : List ℕ) (q : Place) (i byte : ℕ) (after : List ℕ) where
-  pub byte_past : q.length ≤ i → memory ≡ set_at memory q i byte
-  byte_past h = rw (le-ltb i q.length h)
-
-  pub byte_set : i < q.length → after ≡ set memory (q.start + i) byte → after ≡ set_at memory q i byte
-  byte_set h e = e ∙ rw (lt-ltb i q.length h)
 
 module _ (pool overflow : List ℕ) (q : Place) (i byte : ℕ) (after : List ℕ) where
   pub written_pool : q.memory ≡ Pool → after ≡ set_at pool q i byte → memories after overflow ≡ written (memories pool overflow) q i byte

@@ -15,10 +15,7 @@ use crate::slice::Handle;
 fn view_place(view: Result<Place, Refusal>) -> Place
     ensures { result ≡ values.view_place view }
 {
-    match view {
-        Ok(place) => place,
-        Err(_) => no_place(),
-    }
+    view.unwrap_or(no_place())
 }
 
 // The number of a view's refusal, or 0.
@@ -35,10 +32,7 @@ fn view_number(view: Result<Place, Refusal>) -> u8
 fn told(view: Result<Place, Refusal>) -> Result<(), Refusal>
     ensures { result ≡ values.told view }
 {
-    match view {
-        Ok(_) => Ok(()),
-        Err(why) => Err(why),
-    }
+    view.map(|_| ())
 }
 
 // That a place lies in its memory is asked by six functions: the memories are lent apart, so that no type has both.

@@ -44,9 +44,6 @@ places_few (suc more) n (suc k) h f = go (ltb n 10) refl (λ l g. places_few mor
     go false p rest = ap suc (rest (omega arith) (shorter n k (ltb-false n 10 p) f))
 
 module _ (n k : ℕ) (h : n < 18446744073709551616) (f : IsDigitCount 10 1 n k) where
-  pub digits_few : k ≤ 20
-  digits_few = at_most 10 1 n k 20 (omega arith) f (omega arith) (omega arith)
-
   pub digits_are : last_digits 10 k n ≡ decimal n
   unfolding decimal
   digits_are = ap (λ (j : ℕ). last_digits 10 j n) (sym (places_few 19 n k (omega arith) f))

@@ -94,9 +94,6 @@ module _ (file : List ℕ) (h : Header) (e : reading file ≡ Ok h) where
 -- ---- Every file
 
 module _ (file : List ℕ) (a : Result Header Refusal) (e : a ≡ reading file) where
-  pub read_trace : (h : Header) → a ≡ Ok h → reading file ≡ Ok h
-  read_trace h t = sym e ∙ t
-
   pub listing_trace : (h : Header) → a ≡ Ok h → (o r : Output) → r ≡ wrote o (listing_of (content file)) → r ≡ wrote o (listing file)
   unfolding listing listing_by
   listing_trace h t o r x = x ∙ rw (← e, t) refl

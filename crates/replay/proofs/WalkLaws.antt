@@ -39,12 +39,6 @@ module _ (bytes : List ℕ) (s : State) (m o : Memories) (d f : List ℕ) (e : E
   pub small_live : sound rust_slots s.pool ≡ true → t.shown.live < 256
   small_live h = subst (λ (x : Stepped). x.step.shown.live < 256) (sym q) (step_live bytes (running s m d) e rust_slots h)
 
-  pub event_left : running t.state o f ≡ left (step bytes (running s m d) e)
-  event_left = ap left q
-
-  pub event_line : (number : ℕ) {a b : Writer} → Writes a b (line number t.shown) → Writes a b (line number (step bytes (running s m d) e).step.shown)
-  event_line number {a} {b} h = subst (λ (x : Stepped). Writes a b (line number x.step.shown)) q h
-
 -- ---- The loop
 
 module _ (bytes : List ℕ) (s t : State) (m o : Memories) (d f : List ℕ) (e : Event) (q : running t o f ≡ left (step bytes (running s m d) e)) where

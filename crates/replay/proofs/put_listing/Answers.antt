@@ -1,9 +1,6 @@
 -- `put_listing` meets its contract. Assumes nothing.
-use Rattle.replay.proofs.ListingLaws.{read_trace, listing_trace, listing_refused}
+use Rattle.replay.proofs.ListingLaws.{listing_trace, listing_refused}
 use Rattle.replay.proofs.put_listing.Goals as goal
-
-pub put_trace-requires : goal.put_trace-requires
-put_trace-requires c = search read_trace
 
 pub returns-in-Ok : goal.returns-in-Ok
 returns-in-Ok c = search listing_trace

@@ -5,5 +5,5 @@ use Rattle.replay.proofs.replay_whole.Goals as goal
 
 pub returns : goal.returns
 returns c =
-    let listed = whole_listed c.args.file.now c.args.out.now c.put_listing.new.out c.put_listing.result (omega arith) c.put_listing.ensures in
+    let listed = whole_listed _ _ _ _ (omega arith) c.put_listing.ensures in
     record { value = listed.0; out_after = listed.1.0; prefix_len = listed.1.1 }

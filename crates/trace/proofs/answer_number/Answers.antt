@@ -1,4 +1,5 @@
 -- `answer_number` meets its contract. Assumes nothing.
+-- The check finds this alone; without it no fact refuses the edits accepted_told_as_refused and refused_told_as_one_less.
 use borrow.Author.Rules.{rules}
 use Rattle.trace.proofs.answer_number.Goals as goal
 

@@ -1,4 +1,5 @@
 -- `calls::resized` meets its contract. Assumes nothing.
+-- The check finds this alone; without it no fact refuses the edit reservation_not_spent.
 use Rattle.buffer_pool.proofs.LentLaws.{resized_left}
 use Rattle.buffer_pool.proofs.calls.resized.Goals as goal
 

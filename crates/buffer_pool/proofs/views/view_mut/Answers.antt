@@ -1,12 +1,6 @@
 -- `views::view_mut` meets its contract. Assumes nothing.
-use Rattle.buffer_pool.proofs.ViewLaws.{lies_pool, bytes_pool, pointer_pool, lies_overflow, bytes_overflow, pointer_overflow}
+use Rattle.buffer_pool.proofs.ViewLaws.{bytes_pool, pointer_pool, bytes_overflow, pointer_overflow}
 use Rattle.buffer_pool.proofs.views.view_mut.Goals as goal
-
-pub part_mut-requires : goal.part_mut-requires
-part_mut-requires c = search lies_pool
-
-pub part_mut-requires-in-Overflow : goal.part_mut-requires-in-Overflow
-part_mut-requires-in-Overflow c = search lies_overflow
 
 pub returns-in-Pool : goal.returns-in-Pool
 returns-in-Pool c =

@@ -15,6 +15,6 @@ returns-then-n-start-2 c = search fill_short
 pub returns : goal.returns
 returns c =
     let a = c.args in
-    let e : c.put_some.new.self.out.now ≡ sets a.memory.now (a.start + a.len) a.text.now = fill_in a.memory.now a.start a.len a.text.now c.new-w.ensures.held c.put_some.ensures.text in
+    let e : c.put_some.new.self.out.now ≡ sets a.memory.now (a.start + a.len) a.text.now = fill_in _ _ _ _ c.new-w.ensures.held c.put_some.ensures.text in
     let name : c.put_some.new.self.out.ghost_name ≡ c.new-w.result.out.ghost_name = c.put_some.ensures.text.same_output in
     grind arith

@@ -9,27 +9,21 @@ use Rattle.replay.proofs.walk.put_events.Goals as goal
 
 pub put_event-s-requires-clause-bytes_bound : goal.put_event-s-requires-clause-bytes_bound
 put_event-s-requires-clause-bytes_bound c =
-    omega (arith, bytes_few c.args.file.now c.bytes-bytes.result.now c.bytes-bytes.ensures.result_value, c.requires.file_bound)
+    omega (arith, bytes_few _ _ c.bytes-bytes.ensures.result_value, c.requires.file_bound)
 
 pub loop-i-preserved : goal.loop-i-preserved
 loop-i-preserved c =
-    let a = c.args in
-    let w = c.loop-i in
-    let v = w.invariant in
-    let b = c.bytes-bytes.result.now in
-    let y = c.put_event-s in
-    let m = memory_of w.m in
-    let o = memory_of y.new.m in
-    let f = y.new.m.destination.now in
-    let q = y.ensures.run_after in
+    let v = c.loop-i.invariant in
+    let y = c.put_event-s.ensures in
+    let q = y.run_after in
     record {
       in_range = omega (arith, c.loop-i-test.true);
-      at = omega (arith, v.at, y.ensures.at);
-      is_sound = next_sound b w.s y.result m o w.m.destination.now f c.event_at-e.result q v.is_sound;
-      next = next_next b w.s y.result m o w.m.destination.now f c.event_at-e.result q v.next;
-      within = next_within b w.s y.result m o w.m.destination.now f c.event_at-e.result q w.i v.within;
-      same_output = y.ensures.text.same_output ∙ v.same_output;
-      text = walk_more b w.s y.result m o w.m.destination.now f c.event_at-e.result q w.i (content a.file.now).events _ (omega (arith, c.loop-i-test.true, c.requires.events_value)) c.event_at-e.ensures y.ensures.text v.text;
+      at = omega (arith, v.at, y.at);
+      is_sound = next_sound _ _ _ _ _ _ _ _ q v.is_sound;
+      next = next_next _ _ _ _ _ _ _ _ q v.next;
+      within = next_within _ _ _ _ _ _ _ _ q _ v.within;
+      same_output = y.text.same_output ∙ v.same_output;
+      text = walk_more _ _ _ _ _ _ _ _ q _ _ _ (omega (arith, c.loop-i-test.true, c.requires.events_value)) c.event_at-e.ensures y.text v.text;
     }
 
 pub put_last-requires : goal.put_last-requires
@@ -43,11 +37,9 @@ put_last-requires c =
 
 pub returns : goal.returns
 returns c =
-    let w = c.loop-i in
-    let v = w.invariant in
-    let b = c.bytes-bytes.result.now in
+    let v = c.loop-i.invariant in
     let l = c.put_last.ensures.text in
-    walked b (content c.args.file.now).bytes c.bytes-bytes.ensures.result_value _ _ (record {
+    walked _ _ c.bytes-bytes.ensures.result_value _ _ (record {
       same_output = l.same_output ∙ v.same_output;
-      after = walk_end b w.s (memory_of w.m) w.m.destination.now w.i (content c.args.file.now).events _ (omega (arith, c.loop-i-test.false, v.in_range, c.requires.events_value)) l v.text;
+      after = walk_end _ _ _ _ _ _ _ (omega (arith, c.loop-i-test.false, v.in_range, c.requires.events_value)) l v.text;
     })

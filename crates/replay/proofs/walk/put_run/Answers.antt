@@ -12,9 +12,7 @@ use Rattle.replay.proofs.walk.put_run.Goals as goal
 
 pub put_events-requires-clause-at_bound : goal.put_events-requires-clause-at_bound
 put_events-requires-clause-at_bound c =
-    let m = c.args.m.now in
-    let n = c.new-c in
-    (grind arith, fresh_sound (memory_of m) (memories n.new.pool m.overflow.now) n.result n.ensures, omega arith)
+    (grind arith, fresh_sound _ _ _ c.new-c.ensures, omega arith)
 
 pub returns : goal.returns
 returns c =
@@ -22,8 +20,7 @@ returns c =
     let n = c.new-c in
     let file = content c.args.file.now in
     let text = listing_on (memory_of m) m.destination.now file in
-    let listed : Writes c.new-w.result c.put_events.new.w text =
-    run_listed (memory_of m) (memories n.new.pool m.overflow.now) n.result n.ensures m.destination.now file c.put_first.ensures.text c.put_events.ensures in
+    let listed : Writes c.new-w.result c.put_events.new.w text = run_listed _ _ _ n.ensures _ file c.put_first.ensures.text c.put_events.ensures in
     let name = listed.same_output in
     let whole : held_by c.put_events.new.w ≡ wrote (output 0 c.args.out.now) text = written 0 c.args.out.now c.new-w.ensures.held listed in
     grind arith

@@ -1,4 +1,5 @@
 -- `buffer_pool::BufferPool::reserve` meets its contract. Assumes nothing.
+-- The check finds this alone; without it no fact refuses the edit moves_before_four_code.
 use Rattle.buffer_pool.proofs.LentLaws.{reserve_left}
 use Rattle.buffer_pool.proofs.buffer_pool.BufferPool.reserve.Goals as goal
 

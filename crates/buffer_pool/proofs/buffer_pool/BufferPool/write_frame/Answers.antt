@@ -1,4 +1,5 @@
 -- `buffer_pool::BufferPool::write_frame` meets its contract. Assumes nothing.
+-- The check finds the two of the return alone; without them no fact refuses the edits refused_write_of_frame_tells_nothing and write_frame_of_zero.
 use Rattle.buffer_pool.proofs.ViewPlaces.{frame_lies}
 use Rattle.buffer_pool.proofs.ViewLaws.{told_there, written_there}
 use Rattle.buffer_pool.proofs.buffer_pool.BufferPool.write_frame.Goals as goal

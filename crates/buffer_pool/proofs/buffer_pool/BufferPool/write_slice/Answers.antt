@@ -1,4 +1,5 @@
 -- `buffer_pool::BufferPool::write_slice` meets its contract. Assumes nothing.
+-- The check finds the answer to the value alone; without it no fact refuses the edit refused_write_of_slice_tells_nothing.
 use Rattle.buffer_pool.proofs.ViewLaws.{told_there, slice_within, slice_written}
 use Rattle.buffer_pool.proofs.buffer_pool.BufferPool.write_slice.Goals as goal
 

@@ -1,6 +1,6 @@
 -- `numbers::Numbers::release` meets its contract. Assumes nothing.
 use Rattle.buffer_pool.proofs.CallLaws.{err_is}
-use Rattle.buffer_pool.proofs.LentLaws.{words_fit, back_fits, live_fits, few_slots, named_one, named_most, release_turned, release_refused, release_done}
+use Rattle.buffer_pool.proofs.LentLaws.{words_fit, back_fits, named_one, named_most, release_turned, release_refused, release_done}
 use Rattle.buffer_pool.proofs.numbers.Numbers.release.Goals as goal
 
 pub returns-in_err-guard : goal.returns-in_err-guard
@@ -17,6 +17,3 @@ release-requires c = (search (named_one, c.in_ok-guard.ensures.0), search (named
 
 pub returns : goal.returns
 returns c = search (release_done, c.in_ok-guard.ensures.0)
-
-pub invariant_of-state : goal.invariant_of-state
-invariant_of-state c = record { few = search (few_slots, c.in_ok-guard.ensures.0); fits = search (live_fits, c.in_ok-guard.ensures.0) }

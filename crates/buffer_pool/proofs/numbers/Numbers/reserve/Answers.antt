@@ -1,6 +1,6 @@
 -- `numbers::Numbers::reserve` meets its contract. Assumes nothing.
 use Rattle.buffer_pool.proofs.CallLaws.{err_is}
-use Rattle.buffer_pool.proofs.ReserveLaws.{passed_worded, passed_back, settled_sum, over_sum, grown_kept, grown_overflow, grown_sum, reserve_turned, reserve_settled, reserve_over, reserve_grown}
+use Rattle.buffer_pool.proofs.ReserveLaws.{passed_worded, passed_back, settled_sum, grown_kept, grown_overflow, grown_sum, reserve_turned, reserve_settled, reserve_over, reserve_grown}
 use Rattle.buffer_pool.proofs.numbers.Numbers.reserve.Goals as goal
 
 pub returns-in_err-guard : goal.returns-in_err-guard
@@ -14,9 +14,6 @@ reserved-requires c = search (settled_sum, c.in_ok-guard.ensures.0, c.in_ok-guar
 
 pub returns-in-Settled : goal.returns-in-Settled
 returns-in-Settled c = search (reserve_settled, c.in_ok-guard.ensures.0, c.in_ok-guard.ensures.1)
-
-pub reserved-requires-in-StartsOver : goal.reserved-requires-in-StartsOver
-reserved-requires-in-StartsOver c = search (over_sum, c.in_ok-guard.ensures.0, c.in_ok-guard.ensures.1)
 
 pub returns-in-StartsOver : goal.returns-in-StartsOver
 returns-in-StartsOver c = search (reserve_over, c.in_ok-guard.ensures.0, c.in_ok-guard.ensures.1)

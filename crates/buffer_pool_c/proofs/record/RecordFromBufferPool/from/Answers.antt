@@ -1,4 +1,5 @@
 -- `record::Record::from` meets its contract. Assumes nothing.
+-- The check finds this alone; without it no fact refuses the edits new_record_has_a_front, overflow_length_stored_as_capacity and stored_with_sixteen_slots.
 use mathlib.Core.Path.{refl}
 use Rattle.buffer_pool_c.proofs.record.RecordFromBufferPool.from.Goals as goal
 
