@@ -196,6 +196,6 @@ resized_left p x r e = ap (resize_called p) (sym e)
 -- ---- A reserve of a record by value that is refused
 
 pub reserve_left : (p : BufferPool) (n : Numbers) → n ≡ numbers_of p → (E : Entries) → E ≡ entries_of p → (m l : Memories) (len : ℕ) (why : Refusal)
-    → outcome (refused (with_entries n E) why) l [] ≡ reserve n.slots (with_entries n E) m len → (c : Called) → c ≡ refused p why
-    → outcome c l [] ≡ reserve p.slots p m len
-reserve_left p n i E j m l len why h c e = rw e (rw (i, j) at h)
+    → outcome (refused (with_entries n E) why) l [] ≡ reserve n.slots (with_entries n E) m len
+    → outcome (refused (with_entries n E) why) l [] ≡ reserve p.slots p m len
+reserve_left p n i E j m l len why h = rw (i, j) (rw (i, j) at h)

@@ -1,6 +1,7 @@
 // The calls (SPECIFICATION 7). Each takes the record by value and both lent memories, refuses in the order of SPECIFICATION 3.3 and 3.4
 // (unsound, wrong length, then its own), and gives the record back with the answer; a refused call changes nothing. What a call decides
-// and moves is that of lent.rt; here its record is put together.
+// and moves is that of lent.rt; here its record is put together, once for done and refused: with a record in each arm of a `match` a call
+// takes 46 ns, not 27 (docs/BENCHMARKS.md).
 ghost use Rattle.std.specs.Prelude.{◌≡◌, []};
 ghost use Rattle.buffer_pool.specs.Lent as lent;
 ghost use Rattle.buffer_pool.specs.Moves.{memories};
@@ -28,19 +29,17 @@ fn refused(p: BufferPool, why: Refusal) -> Called
 fn resized(p: BufferPool, resizing: Result<Resizing, Refusal>) -> Called
     ensures { result ≡ lent.resize_called p resizing }
 {
-    match resizing {
+    let mut q = p;
+    let answer = match resizing {
         Ok(r) => {
-            let mut q = p;
             q.raw_len = r.raw_len;
             q.cursor = r.cursor;
             q.reserved = 0;
-            Called {
-                pool: q,
-                answer: Ok(Answer::Framed(r.place)),
-            }
+            Ok(Answer::Framed(r.place))
         }
-        Err(why) => refused(p, why),
-    }
+        Err(why) => Err(why),
+    };
+    Called { pool: q, answer }
 }
 
 // A refused new: the record of a new pool of the Rust's count of slots, whose two lengths are 0.
@@ -84,18 +83,20 @@ impl BufferPool {
     pub fn reserve(self, pool: &mut [u8], overflow: &mut [u8], len: u64) -> Called
         ensures { spec.outcome result (memories pool.new overflow.new) [] ≡ spec.reserve self.slots self (memories pool.old overflow.old) len }
     {
+        let numbers = self.numbers();
         let mut entries = self.entries();
-        match self.numbers().reserve(&entries, pool, overflow, len) {
+        let (n, answer) = match numbers.reserve(&entries, pool, overflow, len) {
             Ok(r) => {
                 if r.clears {
                     entries.clear();
                 }
-                Called {
-                    pool: r.numbers.filled(&entries),
-                    answer: Ok(Answer::Reserved(r.place, r.changes)),
-                }
+                (r.numbers, Ok(Answer::Reserved(r.place, r.changes)))
             }
-            Err(why) => refused(self, why),
+            Err(why) => (numbers, Err(why)),
+        };
+        Called {
+            pool: n.filled(&entries),
+            answer,
         }
     }
 
@@ -131,23 +132,19 @@ impl BufferPool {
     ) -> Called
         ensures { spec.outcome result (memories pool.now overflow.new) destination.new ≡ spec.take self.slots self (memories pool.now overflow.old) caller destination.old }
     {
+        let numbers = self.numbers();
         let mut entries = self.entries();
-        match self
-            .numbers()
-            .take(&entries, pool, overflow, caller, destination)
-        {
-            Ok(Taking::Copied(copied, numbers)) => Called {
-                pool: numbers.filled(&entries),
-                answer: Ok(Answer::Copied(copied)),
-            },
-            Ok(Taking::Pooled(handle, numbers)) => {
+        let (n, answer) = match numbers.take(&entries, pool, overflow, caller, destination) {
+            Ok(Taking::Copied(copied, n)) => (n, Ok(Answer::Copied(copied))),
+            Ok(Taking::Pooled(handle, n)) => {
                 entries.enter(handle);
-                Called {
-                    pool: numbers.filled(&entries),
-                    answer: Ok(Answer::Taken(handle)),
-                }
+                (n, Ok(Answer::Taken(handle)))
             }
-            Err(why) => refused(self, why),
+            Err(why) => (numbers, Err(why)),
+        };
+        Called {
+            pool: n.filled(&entries),
+            answer,
         }
     }
 
@@ -156,16 +153,14 @@ impl BufferPool {
         ensures { spec.outcome result (memories pool.now overflow.now) [] ≡ spec.release self.slots self (memories pool.now overflow.now) h }
     {
         let entries = self.entries();
-        match self.numbers().release(&entries, pool, overflow, h) {
+        let mut q = self;
+        let answer = match self.numbers().release(&entries, pool, overflow, h) {
             Ok(live) => {
-                let mut q = self;
                 q.live = live;
-                Called {
-                    pool: q,
-                    answer: Ok(Answer::Done),
-                }
+                Ok(Answer::Done)
             }
-            Err(why) => refused(self, why),
-        }
+            Err(why) => Err(why),
+        };
+        Called { pool: q, answer }
     }
 }
