@@ -26,7 +26,7 @@ pub enum PoolMode {
 
 // The pool's record. The two memories that it speaks of are lent to each call: two parameters and no struct, since C lends them apart and
 // most calls write one and read the other. The arrays stand behind whole words: a copy of the record then moves them at even places
-// (docs/BENCHMARKS.md). They are not one field `Entries`: with it a call by value takes 65 to 90 ns, not 46.
+// (docs/BENCHMARKS.md). They are not one field `Entries`: with it a call by value took 65 to 90 ns where it took 46.
 #[derive(Clone, Copy)]
 pub struct BufferPool {
     // the lengths of the pool memory and of the overflow
