@@ -3,8 +3,8 @@ use mathlib.Core.Path.{◌≡◌, refl, sym, ap, ◌∙◌}
 use mathlib.Core.Bool.{Bool, true, false, not, ◌&&◌}
 use mathlib.Core.List.{List}
 use mathlib.Core.Logic.{◌⊎◌, inl, inr}
-use Prim.Native.Nat.{ℕ, ◌^◌, ◌+◌, ◌-◌, ◌/◌, ◌≤◌, ◌<◌}
-use native.Mathlib.Nat.{add-zero, le_refl}
+use Prim.Native.Nat.{ℕ, ◌^◌, ◌+◌, ◌-◌, ◌≤◌, ◌<◌}
+use native.Mathlib.Nat.{add-zero}
 use native.Mathlib.Omega.{arith}
 use lib.Count.{count_trailing_zeros}
 use lib.Dec.{leb, ltb}
@@ -22,7 +22,6 @@ use Rattle.buffer_pool.specs.Numbers.{bare}
 use Rattle.buffer_pool.specs.Soundness.{is_slot_count, back_numbers, alloc_sound}
 use Rattle.buffer_pool.specs.SlotPass.{ordered, word_fits, is_back_within, front_counts, mode_numbers, numbers_sound, front_own, own_sound, front_sound, span_of, ordered_in, slots_sound, parts_sound}
 use Rattle.buffer_pool.proofs.Parts.{count_bounds}
-use Rattle.buffer_pool.proofs.SlotPassLaws.{ordered_last, ordered_front}
 
 -- ---- The slot count and the live word
 
@@ -88,41 +87,21 @@ module _ (n : Numbers) (s : Bool) (e : s ≡ numbers_sound n) (h : not s ≡ fal
   numbers_begins = back_begins n (both_true (is_back_within n) _ first_parts.1).0
 
   -- a front has a slot, and no more than lie before the back
-  front_slots_lem : (f : PoolFront) → n.mode ≡ Front f → (1 ≤ f.back_start) × (f.back_start ≤ n.back_start)
+  front_slots_lem : (f : PoolFront) → n.mode ≡ Front f → f.back_start ≤ n.back_start
   unfolding mode_numbers front_counts
   front_slots_lem f m =
       let c = ap (λ (x : PoolMode). mode_numbers x n) (sym m) ∙ (both_true (is_back_within n) _ first_parts.1).1 in
       let one = leb_and 1 f.back_start (eqb_and (n.back_start + n.back_len) n.slots c).1 in
-      (one.0, (leb_and f.back_start n.back_start one.1).0)
-
-  pub numbers_some : (f : PoolFront) → n.mode ≡ Front f → 1 ≤ f.back_start
-  numbers_some f m = (front_slots_lem f m).0
+      (leb_and f.back_start n.back_start one.1).0
 
   pub numbers_fronts : (f : PoolFront) → n.mode ≡ Front f → f.back_start ≤ n.slots
-  numbers_fronts f m = omega (arith, (front_slots_lem f m).1, numbers_begins)
-
-  pub numbers_first : (span_of n.mode n).first < n.slots
-  unfolding span_of
-  numbers_first = go n.mode refl
-    where
-      go : (x : PoolMode) → n.mode ≡ x → (span_of x n).first < n.slots
-      go Back m = omega (arith, numbers_begins)
-      go (Front f) m = omega (arith, (front_slots_lem f m).1, numbers_begins)
-      go Alloc m = omega (arith, numbers_begins)
+  numbers_fronts f m = omega (arith, front_slots_lem f m, numbers_begins)
 
 -- ---- A front
 
--- its slots, by their bits shifted down
-pub own_order : (n : Numbers) (starts lengths : List ℕ) (f : PoolFront) → f.back_start ≤ n.slots → (own : ℕ) → own ≡ last_live n.slots n.live f.back_start
-    → (bits : ℕ) → bits ≡ n.live / 2 ^ (n.slots - f.back_start) → (u : Bool)
-    → u ≡ ordered f.back_start starts lengths bits (f.back_start - 0) 0 0 n.raw_offset
-    → u ≡ ordered n.slots starts lengths n.live (last_live n.slots n.live f.back_start) 0 0 n.raw_offset
-own_order n starts lengths f m own d bits g u q =
-    let all : f.back_start - 0 ≡ f.back_start = omega arith in
-    let some : last_live n.slots n.live f.back_start - 0 ≡ last_live n.slots n.live f.back_start = omega arith in
-    q ∙ rw (g, all) (ordered_front n.slots starts lengths n.live n.raw_offset f.back_start f.back_start 0 0 m (omega arith))
-    ∙ ordered_last n.slots starts lengths n.live n.raw_offset f.back_start m f.back_start 0 0 (omega arith)
-    ∙ rw some
+pub own_order : (n : Numbers) (starts lengths : List ℕ) (f : PoolFront) (own : ℕ) → own ≡ last_live n.slots n.live f.back_start → (u : Bool)
+    → u ≡ ordered n.slots starts lengths n.live (own - 0) 0 0 n.raw_offset → u ≡ ordered n.slots starts lengths n.live (last_live n.slots n.live f.back_start) 0 0 n.raw_offset
+own_order n starts lengths f own d u q = q ∙ ap (λ (k : ℕ). ordered n.slots starts lengths n.live k 0 0 n.raw_offset) (omega (arith, d))
 
 -- ---- The second part
 
@@ -160,9 +139,6 @@ module _ (n : Numbers) (starts lengths : List ℕ) (s : Bool) (e : s ≡ front_s
   pub front_ends : n.back_start + n.back_len ≤ n.slots
   front_ends = numbers_ends n true held_numbers refl
 
-  pub front_first : (span_of n.mode n).first < n.slots
-  front_first = numbers_first n true held_numbers refl
-
 -- ---- The third part
 
 module _ (n : Numbers) where
@@ -179,20 +155,14 @@ module _ (n : Numbers) where
   unfolding span_of
   span_alloc m = ap (λ (x : PoolMode). span_of x n) (sym m)
 
--- the first slot that it passes is one
-pub span_first : (n : Numbers) (r : Span) → r ≡ span_of n.mode n → (span_of n.mode n).first < n.slots → r.first < n.slots
-span_first n r i f = rw i f
-
 module _ (n : Numbers) (l : n.live < 2 ^ n.slots) (z : ℕ) (d : z ≡ count_trailing_zeros n.slots n.live) where
   pub last_is : n.slots - z ≡ last_live n.slots n.live n.slots
   last_is = sym (last_zeros_all n.slots n.live l ∙ ap (λ (x : ℕ). n.slots - x) (sym d))
 
-  pub slots_order : (starts lengths : List ℕ) (r : Span) → r ≡ span_of n.mode n → (span_of n.mode n).first < n.slots → (t : Bool)
-      → t ≡ ordered n.slots starts lengths n.live (n.slots - r.first) r.first r.from r.to → t ≡ ordered_in (span_of n.mode n) n starts lengths
+  pub slots_order : (starts lengths : List ℕ) (r : Span) → r ≡ span_of n.mode n → (t : Bool)
+      → t ≡ ordered n.slots starts lengths n.live (n.slots - z - r.first) r.first r.from r.to → t ≡ ordered_in (span_of n.mode n) n starts lengths
   unfolding ordered_in
-  slots_order starts lengths r i f t q =
-      q ∙ ordered_last n.slots starts lengths n.live r.to n.slots (le_refl n.slots) (n.slots - r.first) r.first r.from (omega (arith, span_first n r i f))
-      ∙ rw i
+  slots_order starts lengths r i t q = q ∙ rw (last_is, i) refl
 
 -- ---- The three together
 

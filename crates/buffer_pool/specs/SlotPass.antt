@@ -1,14 +1,13 @@
 -- The soundness test as the code makes it (src/sound.rt), in three parts: of a record's numbers, of a front, and of the slots with what
 -- is left. The starts and lengths are lent beside the numbers. `sound_parts` (proofs/SoundParts.antt) shows that the three together are
 -- the test of Soundness.antt.
-use Rattle.std.specs.Prelude.{◌≡◌, Bool, true, false, ◌&&◌, ◌||◌, List, ℕ, zero, suc, ◌+◌, ◌-◌, ◌*◌, ◌%◌, ◌^◌, ◌≤◌, ◌<◌, leb, ltb, eqb, get_or, Option, Some, None}
+use Rattle.std.specs.Prelude.{Bool, true, ◌&&◌, ◌||◌, List, ℕ, zero, suc, ◌+◌, ◌-◌, ◌^◌, leb, ltb, eqb, get_or}
 use Rattle.laws.specs.Tests.{pick}
 use Rattle.laws.specs.Live.{live_at, last_live}
 use Rattle.buffer_pool.specs.declared.buffer_pool.PoolFront.{PoolFront}
 use Rattle.buffer_pool.specs.declared.buffer_pool.PoolMode.{PoolMode}
 use Rattle.buffer_pool.specs.declared.buffer_pool.PoolMode.TheVariants.{Back, Front, Alloc}
 use Rattle.buffer_pool.specs.declared.numbers.Numbers.{Numbers}
-use Rattle.buffer_pool.specs.declared.sound.RunEnd.{RunEnd}
 use Rattle.buffer_pool.specs.declared.sound.Span.{Span}
 use Rattle.buffer_pool.specs.Numbers.{bare}
 use Rattle.buffer_pool.specs.Soundness.{is_slot_count, limited, framed_within, back_numbers, alloc_sound}
@@ -22,23 +21,6 @@ ordered w starts lengths live (suc k) i end to =
     (ltb 0 (get_or lengths i 0) && (leb end (get_or starts i 0)
     && ordered w starts lengths live k (suc i) (get_or starts i 0 + get_or lengths i 0) to))
     (ordered w starts lengths live k (suc i) end to)
-
--- the bits of the slots from index i on, at the top of a word of 32 bits
-abbrev pub bits_after : ℕ → ℕ → ℕ → ℕ
-bits_after w live i = (live * 2 ^ (32 - w + i)) % 2 ^ 32
-
--- the slots from index first up to index i are in order, and the last live one ends at end: those from index i on decide
-pub record Passed (w : ℕ) (starts lengths : List ℕ) (live first from i end bits : ℕ) : Type 0 where
-  pub further : first ≤ i
-  pub within : i ≤ w
-  pub bits_are : bits ≡ bits_after w live i
-  pub rest_decides : (to : ℕ) → ordered w starts lengths live (w - first) first from to ≡ ordered w starts lengths live (w - i) i end to
-
--- a run of live slots from index first on: one is not in order, or all are and the next slot, if there is one, is free
-pub record Runs (w : ℕ) (starts lengths : List ℕ) (live first from : ℕ) (run : Option RunEnd) : Type 0 where
-  pub fails : run ≡ None → (to : ℕ) → ordered w starts lengths live (w - first) first from to ≡ false
-  pub passes : (r : RunEnd) → run ≡ Some r → Passed w starts lengths live first from r.next r.end r.bits
-  pub ends : (r : RunEnd) → run ≡ Some r → r.bits < 2147483648
 
 -- ---- The numbers, but for a front's
 

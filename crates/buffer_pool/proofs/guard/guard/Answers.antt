@@ -1,5 +1,5 @@
 -- `guard::guard` meets its contract. Assumes nothing.
-use Rattle.buffer_pool.proofs.SoundTestLaws.{front_most, front_word, front_ends, front_first}
+use Rattle.buffer_pool.proofs.SoundTestLaws.{front_most, front_word, front_ends}
 use Rattle.buffer_pool.proofs.GuardLaws.{guard_front, guard_slots, guard_pool, guard_overflow, guard_none}
 use Rattle.buffer_pool.proofs.guard.guard.Goals as goal
 
@@ -8,9 +8,6 @@ returns-then-not-sound c = search guard_front
 
 pub invariant_of-slots_sound : goal.invariant_of-slots_sound
 invariant_of-slots_sound c = record { worded = record { most = search front_most; word = search front_word }; back_within = search front_ends }
-
-pub slots_sound-requires : goal.slots_sound-requires
-slots_sound-requires c = search front_first
 
 pub returns-then-not-slots_sound : goal.returns-then-not-slots_sound
 returns-then-not-slots_sound c = search guard_slots

@@ -1,19 +1,20 @@
 -- `sound::in_order` meets its contract. Assumes nothing.
-use Rattle.buffer_pool.proofs.SlotPassLaws.{all_passed, run_begins, next_on, fewer_runs, bits_on, run_on}
-use borrow.Author.Rules.{rules}
+use Rattle.buffer_pool.proofs.SlotPassLaws.{free_passed, empty_fails, early_fails, live_passed, all_passed}
+use Rattle.buffer_pool.proofs.sound.in_order.Goals.{then-is_live+else-len-eq0+else-start-end, else-is_live}
 use Rattle.buffer_pool.proofs.sound.in_order.Goals as goal
 
-pub run-requires : goal.run-requires
-run-requires c = search (run_begins, rules)
+pub returns-then-len-eq0 : goal.returns-then-len-eq0
+returns-then-len-eq0 c = search empty_fails
 
-pub overflow_add-i : goal.overflow_add-i
-overflow_add-i c = search (next_on, c.in-Some.ensures, rules)
+pub returns-then-start-end : goal.returns-then-start-end
+returns-then-start-end c = search early_fails
 
-pub loop-word-smaller : goal.loop-word-smaller
-loop-word-smaller c = search (fewer_runs, c.in-Some.ensures, rules)
-
-pub loop-word-preserved : goal.loop-word-preserved
-loop-word-preserved c = (search (bits_on, c.in-Some.ensures), search (run_on, c.in-Some.ensures))
+pub loop-i-preserved : goal.loop-i-preserved
+loop-i-preserved c =
+    elim c.if-is_live.branch [
+      | then-is_live+else-len-eq0+else-start-end w ↦ rw w.end-is (search live_passed)
+      | else-is_live w ↦ rw w.end-is (search free_passed)
+    ]
 
 pub returns : goal.returns
-returns c = search (all_passed, rules)
+returns c = search all_passed

@@ -11,7 +11,7 @@ unfolding slots_sound
 returns-then-last-n c =
     let a = c.args in
     let l = last_is a.t.n (search rules) c.trailing.result c.trailing.ensures.0 in
-    let h = slots_order a.t.n (search rules) c.trailing.result c.trailing.ensures.0 a.entries.now.starts a.entries.now.lengths c.span_of-r.result (search rules) (search rules)
+    let h = slots_order a.t.n (search rules) c.trailing.result c.trailing.ensures.0 a.entries.now.starts a.entries.now.lengths c.span_of-r.result (search rules)
     c.in_order.result c.in_order.ensures in
     grind (arith, nat_tests, l, h)
 
