@@ -1,7 +1,7 @@
 // The calls (SPECIFICATION 7). Each takes the record by value and both lent memories, refuses in the order of SPECIFICATION 3.3 and 3.4
 // (unsound, wrong length, then its own), and gives the record back with the answer; a refused call changes nothing. What a call decides
 // and moves is that of lent.rt; here its record is put together, once for done and refused: with a record in each arm of a `match` a call
-// takes 46 ns, not 27 (docs/BENCHMARKS.md).
+// took 46 ns where it takes 27 (docs/BENCHMARKS.md).
 ghost use Rattle.std.specs.Prelude.{◌≡◌, []};
 ghost use Rattle.buffer_pool.specs.Lent as lent;
 ghost use Rattle.buffer_pool.specs.Moves.{memories};

@@ -11,8 +11,6 @@ use crate::inner_memory::in_bounds;
 use crate::numbers::{Numbers, Tested};
 use crate::slice::SharedState;
 
-// The loop asks each slot up to the last live one whether it is live.
-
 // Do the live slots after slot `first`, up to slot `last`, lie in order, none empty, from `from` up to `to`?
 fn in_order(
     entries: &Entries,
