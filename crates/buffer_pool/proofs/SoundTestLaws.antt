@@ -86,7 +86,7 @@ module _ (n : Numbers) (s : Bool) (e : s ≡ numbers_sound n) (h : not s ≡ fal
   numbers_begins : n.back_start < n.slots
   numbers_begins = back_begins n (both_true (is_back_within n) _ first_parts.1).0
 
-  -- a front has a slot, and no more than lie before the back
+  -- a front has no more slots than lie before the back
   front_slots_lem : (f : PoolFront) → n.mode ≡ Front f → f.back_start ≤ n.back_start
   unfolding mode_numbers front_counts
   front_slots_lem f m =
