@@ -1,5 +1,5 @@
--- What the highest end of a live slice is (W-206), which line T does not show yet: no live slice ends above, one ends there, and no
--- other number is that. In a sound record it is the end of the last live slot, and no more than the pool's capacity. Assumes nothing.
+-- What the held bytes of line T are (W-206): no live slice ends above, one ends there, and no other number is that. In a sound record they
+-- are the end of the last live slot, and no more than the pool's capacity. Assumes nothing.
 use mathlib.Core.Path.{◌≡◌, refl, sym}
 use mathlib.Core.Bool.{true}
 use Prim.Native.Nat.{ℕ, ◌≤◌}
@@ -18,7 +18,7 @@ use Rattle.buffer_pool.proofs.Named.{names_use}
 use Rattle.replay.specs.HeldBytes.{held, IsHighestEnd}
 use Rattle.replay.proofs.HighestEnd.{highest_is, highest_most, one_highest, freed_highest, last_highest}
 
--- no live slice ends above them, and one ends there, unless they are 0
+-- "the highest end of a live pooled slice": no live slice ends above them, and one ends there, unless they are 0
 pub held_is_highest : (r : BufferPool) → IsHighestEnd r (held r)
 held_is_highest = highest_is
 
@@ -26,12 +26,12 @@ held_is_highest = highest_is
 pub nothing_else_is_highest : (r : BufferPool) (n : ℕ) → IsHighestEnd r n → n ≡ held r
 nothing_else_is_highest r n N = one_highest r n (held r) N (held_is_highest r)
 
--- 0 without one
+-- "0 without one"
 pub held_without_slices : (r : BufferPool) → ((p : ℕ) → Held r.slots r.live p → ⊥) → held r ≡ 0
 held_without_slices r f =
     sym (nothing_else_is_highest r 0 (record { none_above = λ p t. absurd (f p t); one_there = λ l. absurd (omega arith) }))
 
--- freed gaps below count as held: a release leaves them as they are, where another live slice ends as high
+-- "Freed gaps below count as held": a release leaves the held bytes as they are, where another live slice ends as high
 pub freed_gaps_count : (r : BufferPool) (h : Handle) (q : ℕ) → Held r.slots r.live q → (h.slot ≡ q → ⊥)
     → after r.starts r.lengths h.slot ≤ after r.starts r.lengths q → held (release_step r.slots r h).pool ≡ held r
 unfolding release_step
@@ -41,7 +41,7 @@ freed_gaps_count r h q Q d l =
     nothing_else_is_highest r n (freed_highest r h.slot q (names_use r.slots r h e).here Q d l n (held_is_highest (freed r.slots r h.slot))))
     (λ e. refl)
 
--- live slices stand in the order of their slots, so that the last live slot has the highest end
+-- "Live slices stand in the order of their slots, so that the highest end is that of the last live slot"
 pub held_is_the_last_end : (r : BufferPool) → sound r.slots r ≡ true
     → held r ≡ after r.starts r.lengths (last_live r.slots r.live r.slots)
 held_is_the_last_end r s = sym (nothing_else_is_highest r _ (last_highest r (sound_use r.slots r s).orderly.ready.slots))

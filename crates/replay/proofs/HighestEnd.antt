@@ -1,9 +1,8 @@
 -- The highest end of a record's live slices: going up the slots, it is the higher of what was highest before and the next live slot's
--- end, and no two numbers are the highest end. It stays where another slice than the highest is
--- released, and of slices in the order of their slots the last has it. Assumes nothing.
+-- end, and no two numbers are the highest end. It stays where another slice than the highest is released, and of slices in the order of
+-- their slots the last has it. Assumes nothing.
 use mathlib.Core.Path.{◌≡◌, refl, ap, ◌∙◌}
 use mathlib.Core.Bool.{Bool, true, false}
-use mathlib.Core.List.{List}
 use mathlib.Core.Logic.{◌⊎◌, inl, inr}
 use Prim.Native.Nat.{ℕ, zero, suc, ◌≤◌, ◌<◌}
 use native.Mathlib.Nat.{eq-or-lt_of_le, le_refl, eq-zero-or-pos}
@@ -18,59 +17,45 @@ use Rattle.buffer_pool.specs.Steps.{freed}
 use Rattle.buffer_pool.proofs.Order.{LastHeld, last_held, ends_rise}
 use Rattle.buffer_pool.proofs.StepsKept.{released_held}
 use Rattle.replay.specs.HeldBytes.{live_end, highest_end, held, IsHighestEnd}
+use Rattle.replay.proofs.SlotLaws.{end_live, end_free}
 
--- ---- Slots 1 to b
-
-module _ (w live : ℕ) (starts lengths : List ℕ) where
-  end_live : (p : ℕ) → live_at w live p ≡ true → live_end w live starts lengths p ≡ after starts lengths p
-  unfolding live_end
-  end_live p e = rw e refl
-
-  end_free : (p : ℕ) → live_at w live p ≡ false → live_end w live starts lengths p ≡ 0
-  unfolding live_end
-  end_free p e = rw e refl
+module _ (r : BufferPool) where
+  -- ---- Slots 1 to b
 
   -- no live slot of 1 to b ends above n, and one ends at n, unless n is 0
   record HighestTo (b n : ℕ) : Type 0 where
-    above : (p : ℕ) → p ≤ b → Held w live p → after starts lengths p ≤ n
-    there : 0 < n → (p : ℕ) × Held w live p × (after starts lengths p ≡ n)
+    above : (p : ℕ) → p ≤ b → Held r.slots r.live p → after r.starts r.lengths p ≤ n
+    there : 0 < n → (p : ℕ) × Held r.slots r.live p × (after r.starts r.lengths p ≡ n)
 
-  module _ (b : ℕ) (h : suc b ≤ w) (H : HighestTo b (highest_end w live starts lengths b)) where
-    abbrev end : ℕ
-    end = live_end w live starts lengths (suc b)
-
-    abbrev next : ℕ
-    next = highest_end w live starts lengths (suc b)
-
-    next_above : (p : ℕ) → Held w live p → (p ≡ suc b) ⊎ (p < suc b) → after starts lengths p ≤ next
+  module _ (b : ℕ) (h : suc b ≤ r.slots) (H : HighestTo b (highest_end r b)) where
+    next_above : (p : ℕ) → Held r.slots r.live p → (p ≡ suc b) ⊎ (p < suc b) → after r.starts r.lengths p ≤ highest_end r (suc b)
     unfolding highest_end
-    next_above p t (inl d) = omega (arith, end_live p t.here, ap (live_end w live starts lengths) d)
+    next_above p t (inl d) = omega (arith, end_live r p _ refl t.here, ap (live_end r) d)
     next_above p t (inr d) = omega (arith, H.above p (omega arith) t)
 
-    next_there : 0 < next → (x : Bool) → live_at w live (suc b) ≡ x → Dec (end < highest_end w live starts lengths b)
-        → (p : ℕ) × Held w live p × (after starts lengths p ≡ next)
+    next_there : 0 < highest_end r (suc b) → (x : Bool) → live_at r.slots r.live (suc b) ≡ x → Dec (live_end r (suc b) < highest_end r b)
+        → (p : ℕ) × Held r.slots r.live p × (after r.starts r.lengths p ≡ highest_end r (suc b))
     unfolding highest_end
     next_there l x e (yes d) = let y = H.there (omega arith) in (y.0, y.1, omega (arith, y.2))
-    next_there l true e (no d) = (suc b, record { one = omega arith; most = h; here = e }, omega (arith, d, end_live (suc b) e))
-    next_there l false e (no d) = absurd (omega (arith, d, l, end_free (suc b) e))
+    next_there l true e (no d) = (suc b, record { one = omega arith; most = h; here = e }, omega (arith, d, end_live r (suc b) _ refl e))
+    next_there l false e (no d) = absurd (omega (arith, d, l, end_free r (suc b) _ refl e))
 
-  highest_to : (b : ℕ) → b ≤ w → HighestTo b (highest_end w live starts lengths b)
+  highest_to : (b : ℕ) → b ≤ r.slots → HighestTo b (highest_end r b)
   unfolding highest_end
   highest_to zero h = record { above = λ p k t. absurd (omega (arith, k, t.one)); there = λ l. absurd (omega arith) }
   highest_to (suc b) h =
       let H = highest_to b (omega arith) in
       record {
         above = λ p k t. next_above b h H p t (eq-or-lt_of_le k);
-        there = λ l. next_there b h H l (live_at w live (suc b)) refl (dec_lt _ _);
+        there = λ l. next_there b h H l (live_at r.slots r.live (suc b)) refl (dec_lt _ _);
       }
 
--- ---- A record
+  -- ---- All slots
 
-module _ (r : BufferPool) where
   pub highest_is : IsHighestEnd r (held r)
   unfolding held
   highest_is =
-      let H = highest_to r.slots r.live r.starts r.lengths r.slots (le_refl r.slots) in
+      let H = highest_to r.slots (le_refl r.slots) in
       record {
         none_above = λ p t. omega (arith, H.above p t.most t);
         one_there = λ l. let x = H.there l in (x.0, x.1, omega (arith, x.2));

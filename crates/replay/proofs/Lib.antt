@@ -4,7 +4,6 @@ pub mod Size
 pub mod SlotLaws
 pub mod EventLaws
 pub mod PercentLaws
-pub mod HeldLaws
 pub mod LineLaws
 pub mod Kept
 pub mod ShownSmall

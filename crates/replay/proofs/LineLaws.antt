@@ -11,8 +11,8 @@ use Rattle.replay.specs.declared.event.Tally.{Tally}
 use Rattle.replay.specs.declared.event.Shown.{Shown}
 use Rattle.replay.specs.declared.text.Writer.{Writer}
 use Rattle.replay.specs.Text.{decimal, hex, signed, spaced, newline, Writes}
-use Rattle.replay.specs.Slots.{held}
 use Rattle.replay.specs.Percentage.{percent}
+use Rattle.replay.specs.HeldBytes.{held}
 use Rattle.replay.specs.Listing.{first_line, move_of, line_head, line, last_line, refused_with, refused_nine, refused_ten, refused}
 use Rattle.replay.proofs.TextLaws.{joined}
 

@@ -27,15 +27,16 @@ use Rattle.replay.specs.declared.event.Tally.{Tally}
 use Rattle.replay.specs.declared.event.Starts.{Starts}
 use Rattle.replay.specs.declared.event.Shown.{Shown}
 use Rattle.replay.specs.Text.{hex, signed, spaced, output, wrote}
-use Rattle.replay.specs.Slots.{held}
 use Rattle.replay.specs.Percentage.{percent}
+use Rattle.replay.specs.HeldBytes.{held}
 use Rattle.replay.specs.Run.{Within, Running, left, step}
 use Rattle.replay.specs.Listing.{first_line, move_of, line_head, line, last_line, lines, begun_on, listing_on, listing_of, refused_nine, refused_ten, refused, listing_by, listing, event_limit, first_limit, line_limit, last_limit, listing_limit}
 use Rattle.replay.proofs.Digits.{decimal_most, decimal_any}
 use Rattle.replay.proofs.Kept.{Starting, step_within}
 use Rattle.replay.proofs.ListingLaws.{measured, fitted}
-use Rattle.replay.proofs.ShownSmall.{Small, small_new, Narrow, step_small, step_narrow, held_within}
+use Rattle.replay.proofs.ShownSmall.{Small, small_new, Narrow, step_small, step_narrow}
 use Rattle.replay.proofs.Percentage.{percent_most}
+use Rattle.replay.proofs.HeldBytes.{held_within}
 
 -- ---- The lines
 
@@ -87,7 +88,7 @@ last_length t r w S =
       decimal_most 3 t.done (omega (arith, w.0)),
       decimal_most 3 t.refused (omega (arith, w.1)),
       decimal_most 2 (percent t.spilled t.takes) (omega (arith, percent_most t.spilled t.takes w.3)),
-      decimal_most 4 (held r) (omega (arith, held_within r S)),
+      decimal_most 4 (held r) (omega (arith, held_within r S.is_sound, S.capacity_within)),
     ))
 
 -- ---- The run

@@ -1,11 +1,10 @@
 -- The numbers that the lines show are small. A run keeps its record sound and the lengths of its memories, and in a sound record
--- every slice, the frame and the reservation lie in their memories; so no start and no length exceeds the longest memory, and the
--- held bytes, which stand one after the other, do not either. Assumes nothing.
+-- every slice, the frame and the reservation lie in their memories; so no start and no length exceeds the longest memory. Assumes
+-- nothing.
 use mathlib.Core.Path.{◌≡◌, refl, sym, subst}
 use mathlib.Core.Bool.{Bool, true, false, ◌||◌}
 use mathlib.Core.List.{List}
-use Prim.Native.Nat.{ℕ, zero, suc, ◌+◌, ◌-◌, ◌≤◌, ◌<◌, min}
-use native.Mathlib.Nat.{le_refl}
+use Prim.Native.Nat.{ℕ, suc, ◌+◌, ◌-◌, ◌≤◌, ◌<◌, min}
 use native.Mathlib.Omega.{arith}
 use borrow.Author.Tests.{ne_eqb, lt-leb}
 use lib.Dec.{leb, ltb, eqb}
@@ -13,7 +12,6 @@ use lib.ListN.{length}
 use Rattle.std.specs.Prelude.{Ok, Err}
 use Rattle.laws.specs.Tests.{pick}
 use Rattle.laws.specs.Lists.{part}
-use Rattle.laws.specs.Live.{live_at}
 use Rattle.laws.proofs.Tests.{pick_cases}
 use Rattle.buffer_pool.specs.declared.slice.Handle.{Handle}
 use Rattle.buffer_pool.specs.declared.buffer_pool.BufferPool.{BufferPool}
@@ -23,24 +21,23 @@ use Rattle.buffer_pool.specs.declared.buffer_pool.Answer.TheVariants.{Done, Take
 use Rattle.buffer_pool.specs.declared.buffer_pool.Called.{Called}
 use Rattle.buffer_pool.specs.declared.refusals.Refusal.{Refusal}
 use Rattle.buffer_pool.specs.declared.refusals.Refusal.TheVariants.{Unsound, WrongLength, OverflowTooShort, CommitTooLong, DestinationTooShort, NotLive, NoSerials}
-use Rattle.buffer_pool.specs.Record.{rust_slots, byte_limit, caller_count, start_at, after}
+use Rattle.buffer_pool.specs.Record.{rust_slots, byte_limit, caller_count, start_at}
 use Rattle.buffer_pool.specs.Values.{refusal_number, no_handle, Values, values}
 use Rattle.buffer_pool.specs.Moves.{Memories}
 use Rattle.buffer_pool.specs.Placing.{place, is_too_long}
 use Rattle.buffer_pool.specs.Soundness.{is_slot_count, sound}
-use Rattle.buffer_pool.specs.Sound.{Held, Slots}
+use Rattle.buffer_pool.specs.Sound.{Held}
 use Rattle.buffer_pool.specs.Steps.{refused, frame, frame_of, reserve_on, reserve_step, resized, reframed, commit_step, truncate_step, most_serials, given_to, next_handle, take_on, take_step, names, release_step}
 use Rattle.buffer_pool.specs.Calls.{Outcome, new}
 use Rattle.buffer_pool.proofs.BoundLaws.{end_some}
 use Rattle.buffer_pool.proofs.Ranges.{Inside, bytes_for}
-use Rattle.buffer_pool.proofs.Soundness.{sound_use}
 use Rattle.buffer_pool.proofs.SoundKept as kept
 use Rattle.buffer_pool.proofs.SoundKept.{step_sizes, sound_kept, sound_inside}
 use Rattle.trace.specs.declared.Event.{Event}
 use Rattle.trace.specs.Trace.{size_limit, take_kind, release_kind, most_caller}
 use Rattle.replay.specs.declared.event.Extent.{Extent}
 use Rattle.replay.specs.declared.event.Shown.{Shown}
-use Rattle.replay.specs.Slots.{slot_of, handle_at, handle_of, held_at, held_from, held}
+use Rattle.replay.specs.Slots.{slot_of, handle_at, handle_of}
 use Rattle.replay.specs.Run.{extent, take_extent, release_extent, extent_of, shown_so, shown_of, filling, filled, call_of, Running, step_of, step}
 use Rattle.replay.proofs.SlotLaws.{slot_held}
 use Rattle.std.specs.Prelude.{Option, Some, None, IfSome}
@@ -245,26 +242,3 @@ module _ (bytes : List ℕ) (s : Running) (e : Event) (S : Small s.state.pool) (
             starts_within r.slots size_limit e.kind r _ S.is_sound (step_sound bytes s e r.slots S.is_sound) S.capacity_within
             good.0.capacity_within;
       }
-
--- ---- The held bytes
-
--- going up the slots, the slices from e on stand one after the other
-held_from_lem : (r : BufferPool) → Slots r.slots r.live r.starts r.lengths r.capacity → (n p e : ℕ) → 1 ≤ p → p + n ≡ suc r.slots → e ≤ r.capacity
-    → ((q : ℕ) → p ≤ q → Held r.slots r.live q → e ≤ start_at r.starts q) → e + held_from r.slots r.live r.lengths p n ≤ r.capacity
-unfolding held_from held_at
-held_from_lem r S zero p e o m c f = omega arith
-held_from_lem r S (suc n) p e o m c f = go (live_at r.slots r.live p) refl (λ b. held_from_lem r S n (suc p) b (omega arith) (omega arith))
-  where
-    go : (t : Bool) → live_at r.slots r.live p ≡ t
-        → ((b : ℕ) → b ≤ r.capacity → ((q : ℕ) → suc p ≤ q → Held r.slots r.live q → b ≤ start_at r.starts q) → b + held_from r.slots r.live r.lengths (suc p) n ≤ r.capacity)
-        → e + (pick t (start_at r.lengths p) 0 + held_from r.slots r.live r.lengths (suc p) n) ≤ r.capacity
-    go true t next =
-        let H : Held r.slots r.live p = record { one = o; most = omega arith; here = t } in
-        let end = end_some r.starts r.lengths p (λ z. omega (arith, z, o)) (start_at r.starts p) (start_at r.lengths p) refl refl in
-        omega (arith, end, f p (le_refl p) H, next (after r.starts r.lengths p) (S.inside p H) (λ q l K. S.order p q l H K))
-    go false t next = omega (arith, next e c (λ q l K. f q (omega arith) K))
-
-pub held_within : (r : BufferPool) → Small r → held r ≤ size_limit
-unfolding held
-held_within r S =
-    omega (arith, S.capacity_within, held_from_lem r (sound_use r.slots r S.is_sound).orderly.ready.slots r.slots 1 0 (omega arith) (omega arith) (omega arith) (λ q l K. omega arith))

@@ -1,8 +1,8 @@
 -- The slots that the loops of slots.rt have passed, and what they know where they return. Assumes nothing.
-use mathlib.Core.Path.{◌≡◌, refl, sym}
+use mathlib.Core.Path.{◌≡◌, refl, sym, ◌∙◌}
 use mathlib.Core.Bool.{Bool, true, false, not}
 use mathlib.Core.List.{List}
-use Prim.Native.Nat.{ℕ, zero, suc, ◌+◌, ◌-◌, ◌≤◌, ◌<◌}
+use Prim.Native.Nat.{ℕ, zero, suc, ◌+◌, ◌-◌, ◌≤◌, ◌<◌, max}
 use native.Mathlib.Numerals.{add-one}
 use native.Mathlib.Omega.{arith}
 use lib.ListN.{get_or}
@@ -11,8 +11,11 @@ use Rattle.laws.specs.Tests.{pick}
 use Rattle.laws.specs.Live.{live_at}
 use Rattle.laws.proofs.Tests.{both_true, not_true, pick_cases}
 use Rattle.buffer_pool.specs.declared.buffer_pool.BufferPool.{BufferPool}
+use Rattle.buffer_pool.specs.Record.{after}
 use Rattle.buffer_pool.specs.Sound.{Held}
-use Rattle.replay.specs.Slots.{bears, slot_from, slot_of, handle_at, handle_of, held_at, held_from, held}
+use Rattle.buffer_pool.proofs.BoundLaws.{end_some}
+use Rattle.replay.specs.Slots.{bears, slot_from, slot_of, handle_at, handle_of}
+use Rattle.replay.specs.HeldBytes.{live_end, highest_end, held}
 
 -- ---- The slot of a caller and a serial
 
@@ -71,14 +74,25 @@ module _ (r : BufferPool) (caller serial : ℕ) (o : Option ℕ) (e : o ≡ slot
 
 -- ---- Held bytes
 
-module _ (r : BufferPool) (total i : ℕ) (inv : total + held_from r.slots r.live r.lengths (i + 1) (r.slots - i) ≡ held_from r.slots r.live r.lengths 1 r.slots) where
-  pub held_more : (n : ℕ) → i < r.slots → n ≡ held_at r.slots r.live r.lengths (i + 1)
-      → total + n + held_from r.slots r.live r.lengths (i + 1 + 1) (r.slots - (i + 1)) ≡ held_from r.slots r.live r.lengths 1 r.slots
-  unfolding held_from
-  held_more n h e =
-      let z : r.slots - i ≡ suc (r.slots - (i + 1)) = omega arith in
-      rw (add-one (i + 1), e) (omega (arith, rw z at inv))
+module _ (r : BufferPool) (p : ℕ) (l : Bool) (e : l ≡ live_at r.slots r.live p) where
+  pub end_live : l ≡ true → after r.starts r.lengths p ≡ live_end r p
+  unfolding live_end
+  end_live t = rw (← e, t) refl
 
-  pub held_all : r.slots ≤ i → total ≡ held r
-  unfolding held_from held
-  held_all h = let z : r.slots - i ≡ 0 = omega arith in omega (arith, rw z at inv)
+  -- as the code reads it
+  pub end_read : l ≡ true → 1 ≤ p → get_or r.starts (p - 1) 0 + get_or r.lengths (p - 1) 0 ≡ live_end r p
+  end_read t o =
+      end_some r.starts r.lengths p (λ z. omega (arith, z, o)) (get_or r.starts (p - 1) 0) (get_or r.lengths (p - 1) 0) refl refl ∙ end_live t
+
+  pub end_free : l ≡ false → 0 ≡ live_end r p
+  unfolding live_end
+  end_free f = rw (← e, f) refl
+
+module _ (r : BufferPool) (i highest : ℕ) (inv : highest ≡ highest_end r i) where
+  pub held_more : (n next : ℕ) → n ≡ live_end r (i + 1) → next ≡ max highest n → next ≡ highest_end r (i + 1)
+  unfolding highest_end
+  held_more n next e f = rw (f, inv, e, add-one i) refl
+
+  pub held_all : i ≤ r.slots → r.slots ≤ i → highest ≡ held r
+  unfolding held
+  held_all h k = let z : i ≡ r.slots = omega arith in rw z at inv

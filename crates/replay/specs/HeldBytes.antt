@@ -1,6 +1,6 @@
--- The highest end of a live slice (W-206), which line T does not show yet: `held` is the number; `IsHighestEnd` says what it means,
--- and proofs/HeldBytes.antt has that the one is the other. w is the slot count.
-use Rattle.std.specs.Prelude.{◌≡◌, List, ℕ, zero, suc, ◌≤◌, ◌<◌, max}
+-- The held bytes of line T, SPECIFICATION 10.11 (W-206): `held` is what the listing shows; `IsHighestEnd` says what it means, and
+-- proofs/HeldBytes.antt has that the one is the other.
+use Rattle.std.specs.Prelude.{◌≡◌, ℕ, zero, suc, ◌≤◌, ◌<◌, max}
 use Rattle.laws.specs.Tests.{pick}
 use Rattle.laws.specs.Live.{live_at}
 use Rattle.buffer_pool.specs.declared.buffer_pool.BufferPool.{BufferPool}
@@ -10,17 +10,17 @@ use Rattle.buffer_pool.specs.Sound.{Held}
 -- ---- The held bytes
 
 -- the end of slot p's slice, and 0 where it is free
-unfoldable pub live_end : ℕ → ℕ → List ℕ → List ℕ → ℕ → ℕ
-live_end w live starts lengths p = pick (live_at w live p) (after starts lengths p) 0
+unfoldable pub live_end : BufferPool → ℕ → ℕ
+live_end r p = pick (live_at r.slots r.live p) (after r.starts r.lengths p) 0
 
 -- the highest of these ends over slots 1 to b
-unfoldable pub highest_end : ℕ → ℕ → List ℕ → List ℕ → ℕ → ℕ
-highest_end w live starts lengths zero = 0
-highest_end w live starts lengths (suc b) = max (highest_end w live starts lengths b) (live_end w live starts lengths (suc b))
+unfoldable pub highest_end : BufferPool → ℕ → ℕ
+highest_end r zero = 0
+highest_end r (suc b) = max (highest_end r b) (live_end r (suc b))
 
--- over all slots: the highest end of a live pooled slice, 0 without one
+-- over all slots: "the highest end of a live pooled slice, 0 without one"
 unfoldable pub held : BufferPool → ℕ
-held r = highest_end r.slots r.live r.starts r.lengths r.slots
+held r = highest_end r r.slots
 
 -- ---- What it means
 

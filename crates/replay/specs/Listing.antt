@@ -16,8 +16,8 @@ use Rattle.replay.specs.declared.event.Starts.{Starts}
 use Rattle.replay.specs.declared.event.Shown.{Shown}
 use Rattle.replay.specs.declared.TooShort.{TooShort}
 use Rattle.replay.specs.Text.{decimal, hex, signed, spaced, newline}
-use Rattle.replay.specs.Slots.{held}
 use Rattle.replay.specs.Percentage.{percent}
+use Rattle.replay.specs.HeldBytes.{held}
 use Rattle.replay.specs.Run.{Running, running, left, step}
 
 -- ---- The lines

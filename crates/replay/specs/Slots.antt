@@ -1,13 +1,10 @@
--- What the run reads off the slots of the pool's record: the slice that a caller and a serial name, and the bytes held. w is the slot
--- count.
-use Rattle.std.specs.Prelude.{Bool, ◌&&◌, List, ℕ, zero, suc, ◌+◌, eqb, Option, Some, None}
+-- The slice that a caller and a serial name, read off the slots of the pool's record. w is the slot count.
+use Rattle.std.specs.Prelude.{Bool, ◌&&◌, List, ℕ, zero, suc, eqb, Option, Some, None}
 use Rattle.laws.specs.Tests.{pick}
 use Rattle.laws.specs.Live.{live_at}
 use Rattle.buffer_pool.specs.declared.slice.Handle.{Handle}
 use Rattle.buffer_pool.specs.declared.buffer_pool.BufferPool.{BufferPool}
 use Rattle.buffer_pool.specs.Record.{start_at}
-
--- ---- The slice of a caller and a serial
 
 -- is slot p live, and has it this caller and this serial?
 unfoldable pub bears : ℕ → ℕ → List ℕ → List ℕ → ℕ → ℕ → ℕ → Bool
@@ -32,18 +29,3 @@ handle_at r caller serial (Some p) =
 -- numbers, which a release refuses with 7
 unfoldable pub handle_of : BufferPool → ℕ → ℕ → Handle
 handle_of r caller serial = handle_at r caller serial (slot_of r caller serial)
-
--- ---- Held bytes
-
--- the length of slot p's slice, and 0 where it is free
-unfoldable pub held_at : ℕ → ℕ → List ℕ → ℕ → ℕ
-held_at w live lengths p = pick (live_at w live p) (start_at lengths p) 0
-
--- the sum over the n slots from slot p on
-unfoldable pub held_from : ℕ → ℕ → List ℕ → ℕ → ℕ → ℕ
-held_from w live lengths p zero = 0
-held_from w live lengths p (suc n) = held_at w live lengths p + held_from w live lengths (suc p) n
-
--- 10.6: "Held bytes are the sum of the lengths of the live slices"
-unfoldable pub held : BufferPool → ℕ
-held r = held_from r.slots r.live r.lengths 1 r.slots

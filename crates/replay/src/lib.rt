@@ -3,7 +3,6 @@
 #![tactic(auto)]
 
 mod event;
-mod held;
 mod lent;
 mod listing;
 mod percent;

@@ -1,8 +1,9 @@
 // What the run reads off the slots of the pool's record: the slice that a caller and a serial name, and the bytes held.
-ghost use Rattle.std.specs.Prelude.{◌≡◌, ◌≤◌, ◌<◌, ◌^◌, IfSome};
+ghost use Rattle.std.specs.Prelude.{◌≡◌, ◌≤◌, IfSome};
 ghost use Rattle.laws.specs.Live.{slot_mask, live_at};
 ghost use Rattle.buffer_pool.specs.Record.{most_slots};
 ghost use Rattle.replay.specs.Slots as spec;
+ghost use Rattle.replay.specs.HeldBytes as held_bytes;
 
 use buffer_pool::buffer_pool::BufferPool;
 use buffer_pool::slice::Handle;
@@ -10,7 +11,7 @@ use buffer_pool::slice::Handle;
 // The slots of a pool's record, which its arrays have places for.
 #[derive(Clone, Copy)]
 pub(crate) struct Slots<'a> {
-    pub(crate) r: &'a BufferPool,
+    r: &'a BufferPool,
     ghost few: { r.now.slots ≤ most_slots },
 }
 
@@ -36,7 +37,7 @@ impl<'a> Slots<'a> {
     }
 
     // Is slot `p` live?
-    pub(crate) fn is_live(self, p: usize) -> bool
+    fn is_live(self, p: usize) -> bool
         requires { (1 ≤ p) × (p ≤ self.r.now.slots) }
         ensures { result ≡ live_at self.entry.r.now.slots self.entry.r.now.live p }
     {
@@ -51,7 +52,7 @@ impl<'a> Slots<'a> {
         self.is_live(p) && self.r.callers[p - 1] == caller && self.r.serials[p - 1] == serial
     }
 
-    // The loops below are no `find` and no `sum`: a closure would be given numbers of which its `requires` must first be shown, as the
+    // The loops below are no `find` and no `max`: a closure would be given numbers of which its `requires` must first be shown, as the
     // `for` shows it of its index.
 
     // The first live slot with this caller and this serial, if a live one has both.
@@ -89,27 +90,26 @@ impl<'a> Slots<'a> {
         }
     }
 
-    // The length of slot `p`'s slice, and 0 where it is free.
-    fn held_at(self, p: usize) -> u64
+    // The end of slot `p`'s slice, and 0 where it is free.
+    fn live_end(self, p: usize) -> u64
         requires { (1 ≤ p) × (p ≤ self.r.now.slots) }
-        ensures value { result ≡ spec.held_at self.entry.r.now.slots self.entry.r.now.live self.entry.r.now.lengths p }
-        ensures bound { result < 2 ^ 32 }
+        ensures { result ≡ held_bytes.live_end self.entry.r.now p }
     {
         if self.is_live(p) {
-            self.r.lengths[p - 1] as u64
+            self.r.starts[p - 1] as u64 + self.r.lengths[p - 1] as u64
         } else {
             0
         }
     }
 
-    // The held bytes: the sum of the lengths of the live slices.
+    // The held bytes: the highest end of a live slice, and 0 without one.
     pub(crate) fn held(self) -> u64
-        ensures { result ≡ spec.held self.entry.r.now }
+        ensures { result ≡ held_bytes.held self.entry.r.now }
     {
-        let mut total = 0;
+        let mut highest = 0;
         for i in 0..self.r.slots {
-            total += self.held_at(i + 1);
+            highest = highest.max(self.live_end(i + 1));
         }
-        total
+        highest
     }
 }

@@ -5,6 +5,7 @@ use crate::calls::{Event, List, Name, View, CALLERS, SLOTS};
 use crate::generate::{self, Callers};
 use crate::judge::Judge;
 use crate::random::Random;
+use std::ptr;
 
 /// The longest file, the longest memory, and the bytes of header and event.
 pub const FILE_LIMIT: usize = 65_536;
@@ -123,7 +124,7 @@ fn run(list: &List, mut bytes: &[u8]) -> String {
         out += &format!("{} {letter} {refusal} {mode} {live:02x} {start} {len} {moved}\n", at + 1);
     }
     let percent = percent(copied, taken);
-    let held: usize = judge.slices().map(|(_, bytes)| bytes.len()).sum();
+    let held = held(&judge);
     out + &format!("T {} {refused} {percent} {held}\n", list.events.len() - refused)
 }
 
@@ -132,6 +133,15 @@ fn run(list: &List, mut bytes: &[u8]) -> String {
 fn percent(copied: usize, taken: usize) -> usize {
     let distance = |percent: usize| (percent * taken).abs_diff(100 * copied);
     (0..=100).min_by_key(|&percent| (distance(percent), percent % 2)).expect("there are some")
+}
+
+/// The held bytes: how far up the pool memory is occupied. Its bytes are asked one by one, from the
+/// last down, whether they lie in a live slice.
+fn held(judge: &Judge) -> usize {
+    let live = |byte: &u8| {
+        judge.slices().any(|(_, bytes)| bytes.as_ptr_range().contains(&ptr::from_ref(byte)))
+    };
+    judge.pool_bytes().iter().rposition(live).map_or(0, |last| last + 1)
 }
 
 /// Copies what a commit takes of the trace's bytes into the reservation; gives the rest.
@@ -285,6 +295,37 @@ mod tests {
         let whole = [(0, 0, 0), (0, 5, 0), (5, 5, 100), (1, 100, 1)];
         for (copied, taken, due) in [&named[..], &halves, &below, &above, &whole].concat() {
             assert_eq!(percent(copied, taken), due, "{copied} of {taken}");
+        }
+    }
+
+    /// W-206: a freed gap below a live slice counts, what is freed above all live ones does not, and
+    /// neither do frame, reservation and frames that were copied; without a live slice it is 0. In B, in
+    /// A and in F, where the front's slices lie below those of the back.
+    #[test]
+    fn held_bytes_to_the_highest_end() {
+        let shown = |events: &str| {
+            let list = text::parse(events).expect("a good text");
+            let listing = listing(&encode(&list[0], b""));
+            listing.split_whitespace().last().expect("a number").parse::<usize>().expect("a number")
+        };
+        let octet = format!("pool 17 overflow 20\n{}", "r 2; c 2; t\n".repeat(8));
+        let named = "pool 16 overflow 0\n r 14; c 14; t; r 2; c 2; t; d 1";
+        for (events, due) in [
+            (named.into(), 16),
+            (format!("{named}; d 2"), 0),
+            ("pool 16 overflow 0".into(), 0),
+            ("pool 16 overflow 0\n r 9; c 7; r 2".into(), 0),
+            ("pool 16 overflow 8\n r 3; c 3; t; r 3; c 3; t; d 2; r 7; c 7".into(), 3),
+            ("pool 4 overflow 8\n r 3; c 3; t; r 8; c 8; t".into(), 3),
+            ("pool 4 overflow 8\n r 8; c 8; t; r 8; c 8".into(), 0),
+            (octet.clone(), 16),
+            (format!("{octet} d 8; d 7; d 2"), 12),
+            (format!("{octet} d 1; d 2; d 3; d 4; d 5; d 6; d 7"), 16),
+            (format!("{octet} d 1; d 2; r 3; c 3; t"), 16),
+            (format!("{octet} d 1; d 2; r 3; c 3; t; d 8; d 7"), 12),
+            (format!("{octet} d 1; d 2; r 3; c 3; t; d 3; d 4; d 5; d 6; d 7; d 8"), 3),
+        ] {
+            assert_eq!(shown(&events), due, "{events}");
         }
     }
 

@@ -1,8 +1,6 @@
 -- `walk::put_events` meets its contract. With what is written, the lines of the events from i on are the whole; the record stays sound, and each count at most i. Assumes nothing.
 use Rattle.replay.proofs.WalkLaws.{few_slots, next_sound, next_next, next_within, walk_more, walk_end, walked}
 use Rattle.replay.proofs.ListingLaws.{bytes_few}
-use Rattle.trace.specs.Content.{content}
-use Rattle.replay.specs.Run.{memory_of}
 use native.Mathlib.Omega.{arith}
 use mathlib.Core.Path.{◌∙◌}
 use Rattle.replay.proofs.walk.put_events.Goals as goal

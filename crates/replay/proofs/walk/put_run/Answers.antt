@@ -1,7 +1,6 @@
 -- `walk::put_run` meets its contract. The run begins with what a new pool leaves, which is sound. Assumes nothing.
 use mathlib.Core.Path.{◌≡◌}
 use native.Mathlib.Omega.{arith}
-use Rattle.buffer_pool.specs.Moves.{memories}
 use Rattle.trace.specs.Content.{content}
 use Rattle.replay.specs.Text.{output, wrote, held_by, Writes}
 use Rattle.replay.specs.Run.{memory_of}
