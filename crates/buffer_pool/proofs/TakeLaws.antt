@@ -25,9 +25,10 @@ use Rattle.buffer_pool.specs.declared.numbers.Numbers.{Numbers}
 use Rattle.buffer_pool.specs.declared.lent.Taking.{Taking}
 use Rattle.buffer_pool.specs.declared.lent.Taking.TheVariants.{Copied, Pooled}
 use Rattle.buffer_pool.specs.declared.refusals.Refusal.{Refusal}
+use Rattle.buffer_pool.specs.declared.slice.Handle.{Handle}
 use Rattle.buffer_pool.specs.declared.refusals.Refusal.TheVariants.{DestinationTooShort, NoSerials, UnknownCaller}
 use Rattle.buffer_pool.specs.Record.{caller_count, framed}
-use Rattle.buffer_pool.specs.Numbers.{numbers_of, rest_in, bare, with_numbers, with_entries, entered}
+use Rattle.buffer_pool.specs.Numbers.{numbers_of, entries_of, rest_in, bare, with_numbers, with_entries, entered}
 use Rattle.buffer_pool.specs.Moves.{Memories, memories, act, perform}
 use Rattle.buffer_pool.specs.Placing.{is_alloc}
 use Rattle.buffer_pool.specs.Deciding.{offered}
@@ -225,6 +226,14 @@ module _ (n : Numbers) (E : Entries) (pool overflow : List ℕ) where
                   ∙ taken_by (called (framed p Alloc n.raw_offset n.raw_len (n.kept - n.cursor) 0 0) (Ok (answers.Copied n.cursor)))
                   (step_as false false _ Alloc (ne_eqb w.length 0 s) (ap (ltb (length destination)) cursor_is ∙ d) refl alloc)
 
+          pub no_slot_within : (r : Result Taking Refusal) → r ≡ lent.copied_out (ltb (length destination) n.cursor) n → lent.InArrays r
+          unfolding lent.copied_out
+          no_slot_within r g = rw g (go (ltb (length destination) n.cursor))
+            where
+              go : (long : Bool) → lent.InArrays (lent.copied_out long n)
+              go true = tt
+              go false = tt
+
           pub take_slot : al ≡ false → (r : Result Taking Refusal) → r ≡ lent.pooled (leb 4294967295 (get_or E.given caller 0)) n caller (get_or E.given caller 0)
               → outcome (take_called p r) m destination ≡ take n.slots p m caller destination
           unfolding take_on lent.pooled entered
@@ -257,3 +266,21 @@ module _ (n : Numbers) (E : Entries) (pool overflow : List ℕ) where
                   slot_by (Front (longer h (suc n.used))) n.back_len (rw (k, add-one n.used) refl) (rw k refl)
                   (step_as false _ false (Front h) (ne_eqb w.length 0 s) refl y k)
               go Alloc k x spent y = absurd (no_true (sym x))
+
+          pub slot_within : al ≡ false → (r : Result Taking Refusal) → r ≡ lent.pooled (leb 4294967295 (get_or E.given caller 0)) n caller (get_or E.given caller 0)
+              → lent.InArrays r
+          unfolding lent.pooled
+          slot_within t r g = rw g (go (leb 4294967295 (get_or E.given caller 0)))
+            where
+              go : (spent : Bool) → lent.InArrays (lent.pooled spent n caller (get_or E.given caller 0))
+              go true = tt
+              go false = (omega arith, omega (arith, used_below al j t w i s, few_slots n E m e), b)
+
+-- ---- A take of a record by value that gives a slice
+
+pub take_left : (p : BufferPool) (n : Numbers) → n ≡ numbers_of p → (E : Entries) → E ≡ entries_of p → (m l : Memories) (caller : ℕ) (destination after : List ℕ)
+    → (y : Result Taking Refusal) (t : Taking) → y ≡ Ok t → (a : Handle) (x : Numbers) → t ≡ Pooled a x
+    → outcome (take_called (with_entries n E) y) l after ≡ take n.slots (with_entries n E) m caller destination
+    → (h : Handle) → h ≡ a → (q : Numbers) → q ≡ x → (F : Entries) → F ≡ entered E h
+    → outcome (called (with_entries q F) (Ok (Taken h))) l after ≡ take p.slots p m caller destination
+take_left p n i E j m l caller destination after y t f a x k e h u q v F g = rw (g, u, v, j) (rw (f, k, i, j) at e)

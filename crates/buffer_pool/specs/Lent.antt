@@ -1,6 +1,6 @@
 -- What the calls on a record's numbers give (src/lent.rt), and the record and answer that they leave of a record: what the calls on a
 -- record by value and the C interface share. No statement cites this.
-use Rattle.std.specs.Prelude.{Bool, true, false, Result, Ok, Err, ℕ, ◌+◌, ◌-◌}
+use Rattle.std.specs.Prelude.{Bool, true, false, Result, Ok, Err, ℕ, ◌+◌, ◌-◌, ◌≤◌, ◌<◌, ⊤}
 use Rattle.laws.specs.Tests.{pick}
 use Rattle.laws.specs.Live.{claimed}
 use Rattle.buffer_pool.specs.declared.buffer_pool.BufferPool.{BufferPool}
@@ -17,7 +17,7 @@ use Rattle.buffer_pool.specs.declared.lent.Taking.TheVariants.{Copied, Pooled}
 use Rattle.buffer_pool.specs.declared.refusals.Refusal.{Refusal}
 use Rattle.buffer_pool.specs.declared.refusals.Refusal.TheVariants.{DestinationTooShort, NoSerials}
 use Rattle.buffer_pool.specs.declared.numbers.Numbers.{Numbers}
-use Rattle.buffer_pool.specs.Record.{front, framed, with_live, without_entries}
+use Rattle.buffer_pool.specs.Record.{most_slots, caller_count, front, framed, with_live, without_entries}
 use Rattle.buffer_pool.specs.Numbers.{numbers_of, bare, with_numbers, entries_of, with_entries, entered}
 use Rattle.buffer_pool.specs.Steps.{called, refused, at, reservation}
 
@@ -103,6 +103,12 @@ pooled false n caller last =
 unfoldable pub copied_out : Bool → Numbers → Result Taking Refusal
 copied_out true n = Err DestinationTooShort
 copied_out false n = Ok (Copied n.cursor (numbers_of (framed (bare n) Alloc n.raw_offset n.raw_len (n.kept - n.cursor) 0 0)))
+
+-- a slice that a take gives has a slot and a caller of the arrays
+abbrev pub InArrays : Result Taking Refusal → Type 0
+InArrays (Ok (Copied n q)) = ⊤
+InArrays (Ok (Pooled h q)) = (1 ≤ h.slot) × (h.slot ≤ most_slots) × (h.caller < caller_count)
+InArrays (Err why) = ⊤
 
 -- how many bytes a take copies
 abbrev pub copied_by : Result Taking Refusal → ℕ

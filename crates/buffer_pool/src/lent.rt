@@ -345,7 +345,8 @@ impl Numbers {
         caller: u64,
         destination: &mut [u8],
     ) -> Result<Taking, Refusal>
-        ensures { spec.outcome (lent.take_called (with_entries self entries.now) result) (memories pool.now overflow.new) destination.new ≡ spec.take self.slots (with_entries self entries.now) (memories pool.now overflow.old) caller destination.old }
+        ensures value { spec.outcome (lent.take_called (with_entries self entries.now) result) (memories pool.now overflow.new) destination.new ≡ spec.take self.slots (with_entries self entries.now) (memories pool.now overflow.old) caller destination.old }
+        ensures in_arrays { lent.InArrays result }
     {
         let sound = front_sound(self, numbers_sound(self), entries);
         guard(self, sound, entries, pool, overflow)?;

@@ -53,3 +53,9 @@ entries_known r k = rw (k, (both_true (is_live_word r.live) (is_mode r.mode) k).
 -- and its mode and its front are those that the pool's record gives back
 pub mode_stored : (r : Record) → known r ≡ true → (mode_number (mode_of r.mode (front_held r)) ≡ r.mode) × (front_of (mode_of r.mode (front_held r)) (front_held r) ≡ front_held r)
 mode_stored r k = number_held r.mode (front_held r) (both_true (is_live_word r.live) (is_mode r.mode) k).1
+
+-- of every record, known or not, it gives back the front
+pub front_stored : (n : ℕ) (f : PoolFront) → front_of (mode_of n f) f ≡ f
+front_stored zero f = refl
+front_stored (suc zero) f = refl
+front_stored (suc (suc n)) f = refl

@@ -7,16 +7,29 @@ use std::fmt;
 // No memory is longer where every byte shown is printed.
 const SHOWN_LIMIT: usize = 64;
 
-// Bytes, printed as two hexadecimal digits each.
-#[derive(Clone, Copy)]
-struct Hex<'a>(&'a [u8]);
+// The hexadecimal digits.
+const DIGITS: [u8; 16] = *b"0123456789abcdef";
 
-impl fmt::Display for Hex<'_> {
+// Bytes shown under a name, a byte itself: a space, the name, `=`, and two hexadecimal digits each.
+#[derive(Clone, Copy)]
+struct Shown<'a> {
+    name: u8,
+    bytes: &'a [u8],
+}
+
+// At most as many bytes as a shown memory has. The text is put together before it is written: with a write for each byte a list of small
+// memories took three times as long, and with one for each part a third longer (docs/BENCHMARKS.md, issue 43).
+impl fmt::Display for Shown<'_> {
     fn fmt<W: fmt::Write>(&self, f: &mut fmt::Formatter<W>) -> fmt::Result {
-        for byte in self.0 {
-            write!(f, "{byte:02x}")?;
+        let mut text = [b' '; 3 + 2 * SHOWN_LIMIT];
+        text[1] = self.name;
+        text[2] = b'=';
+        for (to, byte) in text[3..].chunks_exact_mut(2).zip(self.bytes) {
+            to[0] = DIGITS[(byte / 16) as usize];
+            to[1] = DIGITS[(byte % 16) as usize];
         }
-        Ok(())
+        let length = 3 + 2 * self.bytes.len().min(SHOWN_LIMIT);
+        f.write_str(str::from_utf8(&text[..length]).unwrap_or(""))
     }
 }
 
@@ -47,13 +60,22 @@ impl Line<'_, '_> {
             overflow,
             ..
         } = self.after;
-        let frame = Hex(record.frame(pool, overflow));
-        let reservation = Hex(record.reservation(pool, overflow));
-        write!(f, " f={frame} r={reservation}")?;
+        let frame = Shown {
+            name: b'f',
+            bytes: record.frame(pool, overflow),
+        };
+        let reservation = Shown {
+            name: b'r',
+            bytes: record.reservation(pool, overflow),
+        };
+        write!(f, "{frame}{reservation}")?;
         for slot in 1..=BufferPool::POOL_CAPACITY as u8 {
             if let Some(handle) = self.after.live_slice(slot) {
-                let slice = Hex(record.slice(pool, overflow, handle));
-                write!(f, " {slot}={slice}")?;
+                let slice = Shown {
+                    name: b'0' + slot,
+                    bytes: record.slice(pool, overflow, handle),
+                };
+                write!(f, "{slice}")?;
             }
         }
         Ok(())
@@ -65,7 +87,9 @@ impl Line<'_, '_> {
         let pool = self.after;
         let destination = &*pool.destination;
         match destination.get(..copied) {
-            Some(frame) if 0 < copied && copied <= SHOWN_LIMIT => write!(f, " c={}", Hex(frame)),
+            Some(bytes) if 0 < copied && copied <= SHOWN_LIMIT => {
+                write!(f, "{}", Shown { name: b'c', bytes })
+            }
             _ => Ok(()),
         }
     }

@@ -40,14 +40,9 @@ fn event_at(file: &[u8], at: usize, i: u32) -> ListEvent {
     ListEvent::from(bytes_at(file, 0))
 }
 
-// Runs the events of a list, the first at `at`, on a new pool, and prints their lines.
-fn run_events<W: Write>(
-    out: &mut W,
-    file: &[u8],
-    at: usize,
-    events: u32,
-    mut pool: LentPool<'_>,
-) -> io::Result<()> {
+// Runs the events of a list, the first at `at`, on a new pool, and prints their lines. A line that cannot be written is passed over: the
+// events after it are run, and their lines printed.
+fn run_events<W: Write>(out: &mut W, file: &[u8], at: usize, events: u32, mut pool: LentPool<'_>) {
     for i in 0..events {
         let event = event_at(file, at, i);
         let told = pool.run(event);
@@ -57,13 +52,12 @@ fn run_events<W: Write>(
             told,
             after: &pool,
         };
-        print(out, &line)?;
+        let _ = print(out, &line);
     }
-    Ok(())
 }
 
 // Runs the lists of a file, all on the same memories: prints the sizes of each, and the lines of its events where it fits.
-fn run<W: Write>(out: &mut W, file: &[u8]) -> io::Result<()> {
+fn run<W: Write>(out: &mut W, file: &[u8]) {
     let mut pool = [0; MEMORY_LIMIT];
     let mut overflow = [0; MEMORY_LIMIT];
     let mut destination = [0; MEMORY_LIMIT];
@@ -71,7 +65,7 @@ fn run<W: Write>(out: &mut W, file: &[u8]) -> io::Result<()> {
     // a `while`: each list says where the next begins
     while at < file.len() {
         let head = Head::from(bytes_at(file, at));
-        print(out, &head)?;
+        let _ = print(out, &head);
         let first = at + Head::SIZE;
         let capacity = head.capacity as usize;
         let length = head.overflow as usize;
@@ -79,11 +73,10 @@ fn run<W: Write>(out: &mut W, file: &[u8]) -> io::Result<()> {
             && let Some(overflow) = overflow.get_mut(..length)
         {
             let lent = LentPool::new(pool, overflow, &mut destination);
-            run_events(out, file, first, head.events, lent)?;
+            run_events(out, file, first, head.events, lent);
         }
         at = first + ListEvent::SIZE * head.events as usize;
     }
-    Ok(())
 }
 
 // Where reading fails, what was read before is run. Where the lines cannot be written, nobody is told.
@@ -92,6 +85,6 @@ fn main(rt: HostRuntime) {
     let _ = io::copy(&mut rt.stdin().take(INPUT_LIMIT as u64), &mut file);
     let length = file.position() as usize;
     if let Some(lists) = file.get_ref().get(..length) {
-        let _ = run(&mut rt.stdout(), lists);
+        run(&mut rt.stdout(), lists);
     }
 }

@@ -116,18 +116,24 @@ impl<'a> LentPool<'a> {
         })
     }
 
-    // The handle of the slice in a slot, if one is live there.
-    pub(crate) fn live_slice(&self, slot: u8) -> Option<Handle> {
-        let handle = self.entry(slot)?;
-        let view = self.record.slice_view(self.pool, self.overflow, handle);
-        view.is_ok().then_some(handle)
+    // Does the handle name a live slice?
+    fn is_live(&self, slice: Handle) -> bool {
+        self.record
+            .slice_view(self.pool, self.overflow, slice)
+            .is_ok()
     }
 
-    // The handle of the live slice of this name.
+    // The handle of the slice in a slot, if one is live there.
+    pub(crate) fn live_slice(&self, slot: u8) -> Option<Handle> {
+        self.entry(slot).filter(|slice| self.is_live(*slice))
+    }
+
+    // The handle of the live slice of this name. A slot's name is compared before it is asked whether it is live.
     fn named(&self, name: SliceName) -> Option<Handle> {
         (1..=BufferPool::POOL_CAPACITY as u8)
-            .filter_map(|slot| self.live_slice(slot))
-            .find(|slice| slice.caller == name.caller && slice.serial == name.serial)
+            .filter_map(|slot| self.entry(slot))
+            .filter(|slice| slice.caller == name.caller && slice.serial == name.serial)
+            .find(|slice| self.is_live(*slice))
     }
 
     // Keeps a call's record, and gives what its line tells.

@@ -1,0 +1,8 @@
+-- `slice::SharedState::mask` meets its contract. Assumes nothing.
+-- The check finds this alone, by the same facts of shifts; it stands here so that the bit is that of a word of any width (W-208).
+use borrow.Author.Rules.{rules}
+use Rattle.laws.proofs.Words.{mask_wide}
+use Rattle.buffer_pool.proofs.slice.SharedState.mask.Goals as goal
+
+pub returns : goal.returns
+returns c = mask_wide 16 c.args.self.slots c.args.position c.requires.0 c.requires.1 (search rules)
