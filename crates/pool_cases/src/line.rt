@@ -3,6 +3,7 @@ use crate::event::ListEvent;
 use crate::pool::{LentPool, Told};
 use buffer_pool::buffer_pool::{BufferPool, PoolMode};
 use std::fmt;
+use std::fmt::Display;
 
 // No memory is longer where every byte shown is printed.
 const SHOWN_LIMIT: usize = 64;
@@ -60,6 +61,7 @@ impl Line<'_, '_> {
             overflow,
             ..
         } = self.after;
+        let record = *record;
         let frame = Shown {
             name: b'f',
             bytes: record.frame(pool, overflow),
@@ -68,14 +70,15 @@ impl Line<'_, '_> {
             name: b'r',
             bytes: record.reservation(pool, overflow),
         };
-        write!(f, "{frame}{reservation}")?;
+        frame.fmt(f)?;
+        reservation.fmt(f)?;
         for slot in 1..=BufferPool::POOL_CAPACITY as u8 {
             if let Some(handle) = self.after.live_slice(slot) {
                 let slice = Shown {
                     name: b'0' + slot,
                     bytes: record.slice(pool, overflow, handle),
                 };
-                write!(f, "{slice}")?;
+                slice.fmt(f)?;
             }
         }
         Ok(())
@@ -88,7 +91,7 @@ impl Line<'_, '_> {
         let destination = &*pool.destination;
         match destination.get(..copied) {
             Some(bytes) if 0 < copied && copied <= SHOWN_LIMIT => {
-                write!(f, "{}", Shown { name: b'c', bytes })
+                Shown { name: b'c', bytes }.fmt(f)
             }
             _ => Ok(()),
         }
